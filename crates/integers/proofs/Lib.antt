@@ -1,0 +1,10 @@
+pub mod Magnitudes
+pub mod BoundLaws
+pub mod ValueLaws
+pub mod Ring
+pub mod Tests
+pub mod ChooseLaws
+pub mod RootLaws
+pub mod RoundLaws
+pub mod WrapLaws
+mod WideLaws

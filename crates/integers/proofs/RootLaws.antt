@@ -1,0 +1,41 @@
+-- rootOf n is the floor of the square root of n, at every n, and nothing else is. Assumes nothing.
+use mathlib.Core.Path.{_≡_, refl}
+use mathlib.Core.Bool.{Bool, true, false}
+use Prim.Native.Nat.{ℕ, zero, suc, _+_, _*_, _/_, _≤_, _<_}
+use native.Mathlib.Nat.{mul-le-mul, lt-of-not-le, not-le-of-lt, le-antisymm, lt-of-le-of-lt}
+use native.Mathlib.Omega.{arith}
+use lib.Dec.{leb}
+use borrow.Author.Tests.{leb-true, leb-false}
+use Rattle.integers.specs.Choose.{choose}
+use Rattle.integers.specs.Root.{IsRoot, nextRoot, rootBy, rootOf}
+
+next-is : (n r : ℕ) → IsRoot (n / 4) r → (t : Bool) → leb ((2 * r + 1) * (2 * r + 1)) n ≡ t → IsRoot n (choose t (2 * r + 1) (2 * r))
+unfolding choose
+next-is n r h true e = record { low = leb-true _ _ e; high = omega arith }
+next-is n r h false e = record { low = omega arith; high = leb-false _ _ e }
+
+by-is : (k n : ℕ) → n ≤ k → IsRoot n (rootBy k n)
+unfolding rootBy nextRoot
+by-is zero n h = record { low = omega arith; high = omega arith }
+by-is (suc k) zero h = record { low = omega arith; high = omega arith }
+by-is (suc k) (suc m) h =
+    let r = rootBy k (suc m / 4) in
+    next-is (suc m) r (by-is k (suc m / 4) (omega arith)) (leb ((2 * r + 1) * (2 * r + 1)) (suc m)) refl
+
+pub root-is : (n : ℕ) → IsRoot n (rootOf n)
+unfolding rootOf
+root-is n = by-is n n (omega arith)
+
+-- a square below a square
+pub square-lt : (r b : ℕ) → r * r < b * b → r < b
+square-lt r b h = lt-of-not-le (λ k. not-le-of-lt h (mul-le-mul k k))
+
+at-most : (n r s : ℕ) → IsRoot n r → IsRoot n s → r ≤ s
+at-most n r s p q = omega (arith, square-lt r (s + 1) (lt-of-le-of-lt (p .low) (q .high)))
+
+pub root-only : (n r : ℕ) → IsRoot n r → r ≡ rootOf n
+root-only n r p = le-antisymm (at-most n r (rootOf n) p (root-is n)) (at-most n (rootOf n) r (root-is n) p)
+
+-- the root of what lies below a square
+pub root-lt : (n b : ℕ) → n < b * b → rootOf n < b
+root-lt n b h = square-lt (rootOf n) b (lt-of-le-of-lt (root-is n .low) h)

@@ -1,0 +1,23 @@
+-- Document 01: "root is the floor of the square root." Assumes nothing.
+use Prim.Native.Nat.{ℕ, zero, suc, _+_, _*_, _/_, _≤_, _<_}
+use lib.Dec.{leb}
+use Rattle.integers.specs.Choose.{choose}
+
+-- r is the floor of the square root of n: what a reader has to believe. That rootOf n is it, and that nothing else is, are the laws
+-- root-is and root-only of proofs/RootLaws.
+pub record IsRoot (n r : ℕ) : Type 0 where
+  pub low : r * r ≤ n
+  pub high : n < (r + 1) * (r + 1)
+
+-- the root of n, where r is the root of n / 4
+unfoldable pub nextRoot : ℕ → ℕ → ℕ
+nextRoot n r = choose (leb ((2 * r + 1) * (2 * r + 1)) n) (2 * r + 1) (2 * r)
+
+-- it computes, two binary digits of n at a time, of which there are at most k
+unfoldable pub rootBy : ℕ → ℕ → ℕ
+rootBy zero n = 0
+rootBy (suc k) zero = 0
+rootBy (suc k) (suc m) = nextRoot (suc m) (rootBy k (suc m / 4))
+
+unfoldable pub rootOf : ℕ → ℕ
+rootOf n = rootBy n n

@@ -1,0 +1,132 @@
+// Whole numbers: magnitude, rounding, the square root, long products and sums of courses.
+ghost use mathlib.Core.Path.{_≡_};
+ghost use Prim.Native.Nat.{_+_, _*_, _<_};
+ghost use lib.Dec.{leb};
+ghost use lib.IntN.{natAbs};
+ghost use Rattle.integers.specs.Root.{rootOf};
+ghost use Rattle.integers.specs.Round.{nearestOf};
+ghost use Rattle.integers.specs.Wide.{IsProduct, IsTriple, Limbs, base, tripleOf};
+ghost use Rattle.integers.specs.Wrap.{wrapOf};
+
+// |x|, of every i64: the negation is of x + 1, which has one.
+pub fn magnitude(x: i64) -> u64
+    ensures { λ r. ⌜ r ≡ natAbs x ⌝ }
+{
+    if x < 0 {
+        ((0 - (x + 1)) as u64) + 1
+    } else {
+        x as u64
+    }
+}
+
+// x / 16,384 to the nearest whole number, halves away from zero.
+pub fn nearest(x: i64) -> i64
+    ensures { λ r. ⌜ r ≡ nearestOf x ⌝ }
+{
+    let size = ((magnitude(x) + 8192) / 16384) as i64;
+    if x < 0 { 0 - size } else { size }
+}
+
+// The floor of the square root, by halving the range that holds it.
+pub fn root(n: u64) -> u64
+    ensures { λ r. ⌜ r ≡ rootOf n ⌝ }
+{
+    let mut low: u64 = 0;
+    let mut high: u64 = 4294967296;
+    while low + 1 < high {
+        let middle = (low + high) / 2;
+        if middle * middle <= n {
+            low = middle;
+        } else {
+            high = middle;
+        }
+    }
+    low
+}
+
+// A sum of courses or turns, modulo 4,096.
+pub fn wrap(x: i64) -> usize
+    ensures { λ r. ⌜ r ≡ wrapOf x ⌝ }
+{
+    ((x % 4096 + 4096) as usize) % 4096
+}
+
+// high * 2^42 + low
+pub struct Wide {
+    pub high: u64,
+    pub low: u64,
+}
+
+// high * 2^84 + middle * 2^42 + low
+pub struct Triple {
+    pub high: u64,
+    pub middle: u64,
+    pub low: u64,
+}
+
+// The product of two numbers of 42 bits, by halves of 21 bits.
+fn product(u: u64, v: u64) -> Wide
+    requires { ⌜ (u < base) × (v < base) ⌝ }
+    ensures { λ r. ⌜ IsProduct u v r ⌝ }
+{
+    let u1 = u / 2097152;
+    let u0 = u % 2097152;
+    let v1 = v / 2097152;
+    let v0 = v % 2097152;
+    let t = (u1 * v0 + u0 * v1) * 2097152 + u0 * v0;
+    let high = u1 * v1 + t / 4398046511104;
+    let low = t % 4398046511104;
+    Wide { high, low }
+}
+
+// The product of a number of 84 bits and one of 42 bits.
+fn long_product(w: Wide, a: u64) -> Triple
+    requires { ⌜ (w .high < base) × ((w .low < base) × (a < base)) ⌝ }
+    ensures { λ r. ⌜ IsTriple w a r ⌝ }
+{
+    let high = w.high;
+    let low = w.low;
+    let p = product(high, a);
+    let q = product(low, a);
+    let s = p.low + q.high;
+    Triple {
+        high: p.high + s / 4398046511104,
+        middle: s % 4398046511104,
+        low: q.low,
+    }
+}
+
+// Whether a >= b, digit by digit.
+fn at_least(a: Triple, b: Triple) -> bool
+    requires { ⌜ Limbs a × Limbs b ⌝ }
+    ensures { λ r. ⌜ r ≡ leb (tripleOf b) (tripleOf a) ⌝ }
+{
+    if b.high < a.high {
+        return true;
+    }
+    if a.high < b.high {
+        return false;
+    }
+    if b.middle < a.middle {
+        return true;
+    }
+    if a.middle < b.middle {
+        return false;
+    }
+    if a.low < b.low {
+        return false;
+    }
+    true
+}
+
+// Whether y² a >= x² b, the products in full.
+pub fn square_times_at_least(y: u64, a: u64, x: u64, b: u64) -> bool
+    requires { ⌜ (y < base) × ((a < base) × ((x < base) × (b < base))) ⌝ }
+    ensures { λ r. ⌜ r ≡ leb (x * x * b) (y * y * a) ⌝ }
+{
+    let yy = product(y, y);
+    let xx = product(x, x);
+    let left = long_product(yy, a);
+    let right = long_product(xx, b);
+    at_least(left, right)
+}
