@@ -10,6 +10,7 @@ use lib.Dec.{ltb, leb→le, le→leb, ltb→lt, lt→ltb}
 use lib.IntN.{ℤ, pos, negsuc, negℤ, natAbs, subℕ, _+ℤ_, _-ℤ_, _*ℤ_}
 use lib.Signed.{_≤ℤ_, _<ℤ_}
 use borrow.Author.Tests.{ltb-true, ltb-false}
+use Rattle.integers.specs.Bounds.{Within}
 
 abbrev pub up : ℤ → ℕ
 up (pos n) = n
@@ -143,10 +144,18 @@ lt {y} {z} h k e = lt-parts y z (omega (arith, h .balance, k .balance))
 pub lt-of : {y z : ℤ} {p m q n : ℕ} → Rep y p m → Rep z q n → y <ℤ z → p + n < q + m
 lt-of {y} {z} h k e = omega (arith, h .balance, k .balance, parts-lt y z e)
 
+pub lt-le : {y z : ℤ} → y <ℤ z → y ≤ℤ z
+lt-le {y} {z} h = le (v y) (v z) (omega (arith, lt-of (v y) (v z) h))
+
 -- how far |z| goes
 pub abs-parts : (z : ℤ) → natAbs z ≡ up z + down z
 abs-parts (pos n) = omega arith
 abs-parts (negsuc n) = omega arith
+
+-- a range on both sides of 0 is a bound
+pub within-range : (n : ℕ) (z : ℤ) → negℤ (pos n) ≤ℤ z → z ≤ℤ pos n → Within n z
+within-range n (pos k) h l = record { within = omega (arith, le-of (lit k) (lit n) l) }
+within-range n (negsuc k) h l = record { within = omega (arith, le-of (neg (lit n)) (v (negsuc k)) h) }
 
 -- ---- products, signs and differences that are rewritten with
 pub neg-mul : (a b : ℤ) → negℤ a *ℤ b ≡ negℤ (a *ℤ b)
@@ -158,3 +167,16 @@ mul-neg a b = same (mul (v a) (neg (v b))) (neg (mul (v a) (v b))) (omega arith)
 -- the difference of two naturals, where it is not negative
 pub diff-le : (x y : ℕ) → y ≤ x → pos x -ℤ pos y ≡ pos (x - y)
 diff-le x y h = same (sub (lit x) (lit y)) (lit (x - y)) (omega arith)
+
+-- the sign of a difference of naturals is their order
+pub diff-nonneg : (x y : ℕ) → y ≤ x → pos 0 ≤ℤ (pos x -ℤ pos y)
+diff-nonneg x y h = le (lit 0) (sub (lit x) (lit y)) (omega arith)
+
+pub diff-negative : (x y : ℕ) → x < y → (pos x -ℤ pos y) <ℤ pos 0
+diff-negative x y h = lt (sub (lit x) (lit y)) (lit 0) (omega arith)
+
+pub nonneg-diff : (x y : ℕ) → pos 0 ≤ℤ (pos x -ℤ pos y) → y ≤ x
+nonneg-diff x y h = omega (arith, le-of (lit 0) (sub (lit x) (lit y)) h)
+
+pub negative-diff : (x y : ℕ) → (pos x -ℤ pos y) <ℤ pos 0 → x < y
+negative-diff x y h = omega (arith, lt-of (sub (lit x) (lit y)) (lit 0) h)

@@ -1,0 +1,82 @@
+-- Document 01's bearing and signed bearing. Assumes nothing.
+use mathlib.Core.Path.{_≡_}
+use mathlib.Core.Bool.{Bool, _&&_}
+use Prim.Native.Nat.{ℕ, zero, suc, _+_, _-_, _*_, _%_, _^_, _≤_, _<_}
+use lib.Dec.{leb, ltb}
+use lib.IntN.{ℤ, pos, negsuc, _-ℤ_}
+use lib.Signed.{_≤ℤ_, _<ℤ_}
+use Rattle.integers.specs.Choose.{choose}
+use Rattle.course.specs.declared.Vector.{Vector}
+use Rattle.course.specs.Table.{sineOf}
+use Rattle.course.specs.Vectors.{plain, cross}
+use Rattle.course.specs.Direction.{directionOf}
+
+-- the edge of unit k: where the vectors of bearing k begin. The next edge ends them.
+unfoldable pub edgeOf : ℕ → Vector
+edgeOf k = directionOf k
+
+-- "Bearing of a vector v ≠ 0: the one k with cross(D(k), v) ≥ 0 and cross(D(k+1), v) < 0, indices taken round." What a reader has to
+-- believe: that bearingOf v is such a k, and that no other is, are the laws bearing-is and bearing-only of proofs/BearingLaws.
+pub record IsBearing (v : Vector) (k : ℕ) : Type 0 where
+  pub round : k < 4096
+  pub from : pos 0 ≤ℤ cross (edgeOf k) v
+  pub upto : cross (edgeOf (suc k)) v <ℤ pos 0
+
+-- ---- the bearing as a number that computes
+
+-- the edges of the first quarter, j = 1..1024, in naturals
+unfoldable pub edgeNorth : ℕ → ℕ
+edgeNorth j = sineOf (1024 - j)
+
+unfoldable pub edgeEast : ℕ → ℕ
+edgeEast j = sineOf j
+
+-- whether (a, b) has reached edge j of the first quarter
+unfoldable pub reaches : ℕ → ℕ → ℕ → Bool
+reaches a b j = leb j 1024 && leb (edgeEast j * a) (edgeNorth j * b)
+
+-- from t up to the last number that passes, by k binary digits
+unfoldable pub climb : (ℕ → Bool) → ℕ → ℕ → ℕ
+climb f zero t = t
+climb f (suc k) t = choose (f (t + 2 ^ k)) (climb f k (t + 2 ^ k)) (climb f k t)
+
+-- the bearing of (a, b) turned by q quarters
+unfoldable pub bearingIn : ℕ → ℕ → ℕ → ℕ
+bearingIn q a b = (1024 * q + climb (reaches a b) 11 0) % 4096
+
+unfoldable pub bearingBy : ℤ → ℤ → ℕ
+bearingBy (pos zero) (pos zero) = 0
+bearingBy (pos zero) (pos (suc e)) = bearingIn 1 (suc e) 0
+bearingBy (pos (suc n)) (pos e) = bearingIn 0 (suc n) e
+bearingBy (pos zero) (negsuc e) = bearingIn 3 (suc e) 0
+bearingBy (pos (suc n)) (negsuc e) = bearingIn 3 (suc e) (suc n)
+bearingBy (negsuc n) (pos zero) = bearingIn 2 (suc n) 0
+bearingBy (negsuc n) (pos (suc e)) = bearingIn 1 (suc e) (suc n)
+bearingBy (negsuc n) (negsuc e) = bearingIn 2 (suc n) (suc e)
+
+-- the bearing of v, and 0 of (0, 0)
+unfoldable pub bearingOf : Vector → ℕ
+bearingOf v = bearingBy (v .north) (v .east)
+
+-- "Signed bearing: −2048..2047."
+unfoldable pub signedOf : ℕ → ℤ
+signedOf k = choose (ltb k 2048) (pos k) (pos k -ℤ pos 4096)
+
+abbrev pub signedBearingOf : Vector → ℤ
+signedBearingOf v = signedOf (bearingOf v)
+
+-- ---- what the functions promise
+
+-- t is how many of the first quarter's edges (a, b) has reached
+pub record Reached (a b t : ℕ) : Type 0 where
+  pub most : t ≤ 1024
+  pub from : 1 ≤ t → edgeEast t * a ≤ edgeNorth t * b
+  pub upto : t < 1024 → edgeNorth (suc t) * b < edgeEast (suc t) * a
+
+-- r is the bearing of v: the twin's value, and document 01's predicate with no other number meeting it
+pub record Bears (v : Vector) (r : ℕ) : Type 0 where
+  pub value : r ≡ bearingOf v
+  pub low : r < 4096
+  pub holds : (v ≡ plain 0 0 → ⊥) → IsBearing v r
+  pub only : (k : ℕ) → IsBearing v k → k ≡ r
+  pub nought : v ≡ plain 0 0 → r ≡ 0

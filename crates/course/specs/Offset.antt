@@ -1,0 +1,9 @@
+-- Document 01: "off(m, k) is m·D(k)/16,384, each part to the nearest whole, halves away from zero." Assumes nothing.
+use Prim.Native.Nat.{ℕ}
+use lib.IntN.{pos, _*ℤ_}
+use Rattle.integers.specs.Round.{nearestOf}
+use Rattle.course.specs.declared.Vector.{Vector}
+use Rattle.course.specs.Direction.{directionOf}
+
+unfoldable pub offsetOf : ℕ → ℕ → Vector
+offsetOf m k = record { north = nearestOf (pos m *ℤ directionOf k .north); east = nearestOf (pos m *ℤ directionOf k .east) }
