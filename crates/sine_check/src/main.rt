@@ -1,0 +1,47 @@
+// Compares the course table with sines worked out another way: not by a series, but by turning a vector by one unit 1,024 times.
+use libc::STDOUT_FILENO;
+
+// The cosine and the sine of a course, of a circle of radius 1.
+struct Turn {
+    cosine: f64,
+    sine: f64,
+}
+
+// One unit, 1/4096 of a circle, further.
+fn one_further(t: Turn) -> Turn {
+    let c = 0.9999988234517019;
+    let s = 0.0015339801862847655;
+    Turn {
+        cosine: t.cosine * c - t.sine * s,
+        sine: t.sine * c + t.cosine * s,
+    }
+}
+
+// Whether an entry is the whole number nearest to 16,384 times the sine.
+fn agrees(entry: u16, sine: f64) -> bool {
+    let d = 16384.0 * sine - (entry as f64);
+    d < 0.5 && -0.5 < d
+}
+
+// How many of the 1,025 entries agree.
+fn agreeing() -> u64 {
+    let mut count: u64 = 0;
+    let mut t = Turn {
+        cosine: 1.0,
+        sine: 0.0,
+    };
+    let mut k: usize = 0;
+    while k <= 1024 {
+        if agrees(course::sine(k), t.sine) {
+            count += 1;
+        }
+        t = one_further(t);
+        k += 1;
+    }
+    count
+}
+
+fn main() {
+    io::print_decimal(STDOUT_FILENO, agreeing());
+    io::write_all(STDOUT_FILENO, b" of 1025 entries agree\n");
+}
