@@ -8,7 +8,7 @@ use native.Mathlib.Decide.{decLt}
 use lib.Dec.{T, leb, ltb, leb→le, le→leb}
 use lib.IntN.{ℤ, pos, negsuc, negℤ, natAbs, _-ℤ_}
 use lib.Signed.{_≤ℤ_, _<ℤ_, <ℤ-irrefl}
-use borrow.Author.Tests.{ltb-true, ltb-false, lt-ltb, le-ltb}
+use borrow.Author.Tests.{lt-ltb, le-ltb}
 use Rattle.integers.specs.Choose.{choose}
 use Rattle.integers.proofs.ChooseLaws.{choose-true, choose-false}
 use Rattle.integers.specs.Bounds.{Within}
@@ -195,14 +195,21 @@ pub bearing-turned : (a b t q : ℕ) → 0 < a → Reached a b t → q < 4 → b
 bearing-turned a b t q ha z hq = sym (bearing-only (turned q (plain a b)) ((1024 * q + t) % 4096) (quarter-is a b t q ha z hq))
 
 -- ---- the signed bearing lies in −2048..2047
-signed-dec : (k : ℕ) → k < 4096 → (t : Bool) → ltb k 2048 ≡ t → (negℤ (pos 2048) ≤ℤ choose t (pos k) (pos k -ℤ pos 4096)) × (choose t (pos k) (pos k -ℤ pos 4096) <ℤ pos 2048)
-unfolding choose
-signed-dec k h true e = (le (v (negℤ (pos 2048))) (lit k) (omega arith), lt (lit k) (lit 2048) (omega (arith, ltb-true k 2048 e)))
-signed-dec k h false e = (le (v (negℤ (pos 2048))) (sub (lit k) (lit 4096)) (omega (arith, ltb-false k 2048 e)), lt (sub (lit k) (lit 4096)) (lit 2048) (omega arith))
+pub signed-low : (k : ℕ) → k < 2048 → signedOf k ≡ pos k
+unfolding signedOf
+signed-low k h = choose-true (ltb k 2048) (pos k) (pos k -ℤ pos 4096) (lt-ltb k 2048 h)
+
+pub signed-high : (k : ℕ) → 2048 ≤ k → signedOf k ≡ pos k -ℤ pos 4096
+unfolding signedOf
+signed-high k h = choose-false (ltb k 2048) (pos k) (pos k -ℤ pos 4096) (le-ltb k 2048 h)
+
+range-dec : (k : ℕ) → k < 4096 → Dec (k < 2048) → (negℤ (pos 2048) ≤ℤ signedOf k) × (signedOf k <ℤ pos 2048)
+range-dec k h (yes p) = rw (signed-low k p) (le (v (negℤ (pos 2048))) (lit k) (omega arith), lt (lit k) (lit 2048) (omega arith))
+range-dec k h (no p) =
+    rw (signed-high k (omega arith)) (le (v (negℤ (pos 2048))) (sub (lit k) (lit 4096)) (omega arith), lt (sub (lit k) (lit 4096)) (lit 2048) (omega arith))
 
 pub signed-range : (w : Vector) → (negℤ (pos 2048) ≤ℤ signedBearingOf w) × (signedBearingOf w <ℤ pos 2048)
-unfolding signedOf
-signed-range w = signed-dec (bearingOf w) (bearing-low w) (ltb (bearingOf w) 2048) refl
+signed-range w = range-dec (bearingOf w) (bearing-low w) (decLt (bearingOf w) 2048)
 
 pub signed-within : (w : Vector) → Within 2048 (signedBearingOf w)
 signed-within w = within-range 2048 (signedBearingOf w) (signed-range w .0) (lt-le (signed-range w .1))

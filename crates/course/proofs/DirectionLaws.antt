@@ -1,14 +1,15 @@
--- Laws of D(k), for every k: its neighbour, its quarter turns, document 01's three facts, its bound. Assumes nothing.
+-- Laws of D(k), for every k: its neighbour, its quarter turns, document 01's three facts. Assumes nothing.
 use mathlib.Core.Path.{_≡_, refl, sym, ap, _∙_, subst}
 use Prim.Native.Nat.{ℕ, zero, suc, _+_, _*_, _-_, _/_, _%_, _≤_, _<_}
 use native.Mathlib.Omega.{arith}
 use native.Mathlib.Decide.{decLt}
 use lib.IntN.{ℤ, pos, negℤ, negℤ-negℤ, _-ℤ_}
 use lib.Signed.{_≤ℤ_}
+use Rattle.integers.proofs.BoundLaws.{within-neg}
 use Rattle.integers.proofs.Ring.{v, lit, add, sub, neg, mul, same, le}
 use Rattle.course.specs.declared.Vector.{Vector}
 use Rattle.course.specs.Table.{sineOf}
-use Rattle.course.specs.Vectors.{plain, cross, squaredLength}
+use Rattle.course.specs.Vectors.{Near, plain, cross, squaredLength}
 use Rattle.course.specs.Direction.{quarter, turned, directionOf, TableFacts}
 use Rattle.course.proofs.VectorLaws.{vector}
 use Rattle.course.proofs.TableLaws.{table-rule, sine-0}
@@ -56,6 +57,16 @@ length-turned : (q : ℕ) (u : Vector) → squaredLength (turned q u) ≡ square
 unfolding turned
 length-turned zero u = refl
 length-turned (suc q) u = length-quarter (turned q u) ∙ length-turned q u
+
+-- and the bound of its parts
+quarter-near : {n : ℕ} (u : Vector) → Near n u → Near n (quarter u)
+unfolding quarter
+quarter-near u h = record { north = within-neg (h .east); east = h .north }
+
+pub turned-near : {n : ℕ} (q : ℕ) (u : Vector) → Near n u → Near n (turned q u)
+unfolding turned
+turned-near zero u h = h
+turned-near (suc q) u h = quarter-near (turned q u) (turned-near q u h)
 
 -- (a, b) turned, by the number of quarters
 pub turned-0 : (q : ℕ) (a b : ℤ) → q ≡ 0 → turned q (record { north = a; east = b }) ≡ record { north = a; east = b }
