@@ -3,7 +3,7 @@
 --   Bits k z     |z| ≤ 2 ^ k: what the search goes by. A sum asks k - 1 of its parts and a product k / 2, so that each step's number is
 --                read off the goal.
 -- The sets at the end are for `search`. A signed local holds bits and is read back as toZ w (ofZ w z). Assumes nothing.
-use mathlib.Core.Path.{_≡_, sym, subst}
+use mathlib.Core.Path.{_≡_, sym, subst, _∙_}
 use mathlib.Core.Bool.{cond}
 use Prim.Native.Nat.{ℕ, zero, suc, _+_, _-_, _*_, _/_, _^_, _≤_, _<_, min}
 use native.Mathlib.Nat.{min-le-left, min-le-right, le-trans, le-of-eq, mul-le-mul, add-le-add, le-refl, lt-of-le-of-lt, div-mul-le-self, div-le-self, mod-le}
@@ -185,6 +185,10 @@ within-mul y z {m} {n} h k = record { within = le-trans (le-of-eq (abs-mul y z))
 -- an equation, and the bound of what it says
 pub carried : {n : ℕ} {r z : ℤ} → r ≡ z → Within n z → (r ≡ z) × Within n r
 carried {n} e h = (e, subst (Within n) (sym e) h)
+
+-- a call's signed result that is returned: the value that its contract gives, and its bound
+pub passed-on : {n : ℕ} {r z : ℤ} → (r ≡ z) × Within n r → T (leb n (2 ^ 62)) → (toZ w64 (ofZ w64 r) ≡ z) × Within n (toZ w64 (ofZ w64 r))
+passed-on p t = (kept w64 (p .1) t ∙ p .0, within-back w64 t (p .1))
 
 -- ---- the sets
 -- `search overflow depth 20 fits 5000` at a need that a result fits

@@ -4,7 +4,7 @@
 use mathlib.Core.Path.{_≡_, refl, sym, ap, _∙_}
 use Prim.Native.Nat.{ℕ, zero, _-_, _*_, _/_, _^_, _≤_, min}
 use lib.Dec.{T, ltb, leb}
-use lib.IntN.{ℤ, pos, negℤ, _+ℤ_, _*ℤ_, +ℤ-idl}
+use lib.IntN.{ℤ, pos, negℤ, natAbs, _+ℤ_, _*ℤ_, +ℤ-idl}
 use lib.Signed.{ltZ, leZ, quotZ, remZ}
 use mir.Syntax.{Width}
 use mir.Val.{SFits, hbits, toZ, ofZ}
@@ -76,10 +76,16 @@ le-same m m′ y z p q = λ i. leZ (p .same i) (q .same i)
 pub lt-same : (m m′ y z : ℤ) → Reads 63 m y → Reads 63 m′ z → ltZ m m′ ≡ ltZ y z
 lt-same m m′ y z p q = λ i. ltZ (p .same i) (q .same i)
 
+-- a magnitude that is passed on: `search sized depth 20 fits 5000`
+pub abs-same : (m z : ℤ) → Reads 63 m z → natAbs m ≡ natAbs z
+abs-same m z p = ap natAbs (p .same)
+
 -- ---- the sets
 pub ruleset value = (tt, reads-var, reads-nat, reads-quot, reads-rem, reads-minus, reads-add, reads-neg, reads-mul, reads-back, reads-self, bits-lit)
 
 pub ruleset tested = (le-same, lt-same, value)
+
+pub ruleset sized = (abs-same, value)
 
 -- beside overflow, bound or value, for a number that only its type bounds: `search (overflow, typed) depth 20 fits 5000`
 pub ruleset typed = (sfits-mag, bits-typed, within-typed, reads-typed)

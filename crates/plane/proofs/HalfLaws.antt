@@ -1,0 +1,26 @@
+-- The half-plane by the signs of x and y, and exactly opposite legs. Assumes nothing.
+use mathlib.Core.Path.{_≡_, _∙_}
+use mathlib.Core.Bool.{Bool, true, false}
+use Prim.Native.Nat.{ℕ}
+use lib.Dec.{leb}
+use lib.IntN.{ℤ, pos}
+use lib.Signed.{leZ}
+use Rattle.integers.specs.Choose.{choose}
+use Rattle.plane.specs.Half.{squareTimes, halfPlane}
+
+module _ (x y : ℤ) (A B : ℕ) where
+  pub both-met : leZ (pos 0) x ≡ true → leZ (pos 0) y ≡ true → halfPlane x y A B ≡ true
+  unfolding halfPlane choose
+  both-met h k = rw (h, k)
+
+  pub y-negative : leZ (pos 0) x ≡ true → leZ (pos 0) y ≡ false → halfPlane x y A B ≡ leb (squareTimes y A) (squareTimes x B)
+  unfolding halfPlane choose
+  y-negative h k = rw (h, k)
+
+  pub x-negative : leZ (pos 0) x ≡ false → leZ (pos 0) y ≡ true → halfPlane x y A B ≡ leb (squareTimes x B) (squareTimes y A)
+  unfolding halfPlane choose
+  x-negative h k = rw (h, k)
+
+  pub none-met : leZ (pos 0) x ≡ false → leZ (pos 0) y ≡ false → halfPlane x y A B ≡ false
+  unfolding halfPlane choose
+  none-met h k = rw (h, k)

@@ -1,0 +1,47 @@
+-- Document 01, "Lines": the half-plane, and exactly opposite legs. Assumes nothing.
+use mathlib.Core.Bool.{Bool, true, false, _&&_}
+use Prim.Native.Nat.{ℕ, _+_, _*_}
+use lib.Dec.{leb, eqb}
+use lib.IntN.{ℤ, pos, natAbs, _+ℤ_, _-ℤ_, _*ℤ_}
+use lib.Signed.{leZ, ltZ}
+use Rattle.integers.specs.Choose.{choose}
+use Rattle.plane.specs.declared.Leg.{Leg}
+
+-- a·b in three dimensions
+unfoldable pub dot3Of : Leg → Leg → ℤ
+dot3Of a b = a .north *ℤ b .north +ℤ a .east *ℤ b .east +ℤ a .down *ℤ b .down
+
+-- a·a, which is never negative
+unfoldable pub square3Of : Leg → ℕ
+square3Of a = natAbs (dot3Of a a)
+
+-- z²·k
+abbrev pub squareTimes : ℤ → ℕ → ℕ
+squareTimes z k = natAbs z * natAbs z * k
+
+-- x/√A + y/√B ≥ 0: "both at least 0; or one is negative and the other's square times the opposite leg's square is no smaller (y²·A ≥ x²·B
+-- when x < 0 ≤ y)"
+unfoldable pub halfPlane : ℤ → ℤ → ℕ → ℕ → Bool
+halfPlane x y A B =
+    choose (leZ (pos 0) x)
+    (choose (leZ (pos 0) y) true (leb (squareTimes y A) (squareTimes x B)))
+    (choose (leZ (pos 0) y) (leb (squareTimes x B) (squareTimes y A)) false)
+
+-- "With legs a, b before and after point i and d the position less the point": x = d·a, y = d·b, A = a·a, B = b·b
+unfoldable pub metOf : Leg → Leg → Leg → Bool
+metOf d a b = halfPlane (dot3Of d a) (dot3Of d b) (square3Of a) (square3Of b)
+
+-- |a·d − b·c|
+unfoldable pub minorSize : ℤ → ℤ → ℤ → ℤ → ℕ
+minorSize a b c d = natAbs (a *ℤ d -ℤ b *ℤ c)
+
+-- 0 exactly where the cross product of a and b is 0, that is where they are parallel
+unfoldable pub crossSize : Leg → Leg → ℕ
+crossSize a b =
+    minorSize (a .east) (a .down) (b .east) (b .down)
+    + minorSize (a .down) (a .north) (b .down) (b .north)
+    + minorSize (a .north) (a .east) (b .north) (b .east)
+
+-- "legs exactly opposite in three dimensions": parallel, with a negative dot product
+unfoldable pub oppositeOf : Leg → Leg → Bool
+oppositeOf a b = eqb (crossSize a b) 0 && ltZ (dot3Of a b) (pos 0)

@@ -1,0 +1,28 @@
+-- Level vectors and courses: sums, products, a quarter to either side, the length of an arc. Assumes nothing.
+use mathlib.Core.Bool.{Bool}
+use Prim.Native.Nat.{ℕ, _*_, _/_}
+use lib.IntN.{ℤ, pos, natAbs, _+ℤ_, _-ℤ_, _*ℤ_}
+use Rattle.integers.specs.Choose.{choose}
+use Rattle.integers.specs.Wrap.{wrapOf}
+use Rattle.course.specs.declared.Vector.{Vector}
+
+unfoldable pub plus : Vector → Vector → Vector
+plus a b = record { north = a .north +ℤ b .north; east = a .east +ℤ b .east }
+
+unfoldable pub minus : Vector → Vector → Vector
+minus a b = record { north = a .north -ℤ b .north; east = a .east -ℤ b .east }
+
+unfoldable pub dotOf : Vector → Vector → ℤ
+dotOf a b = a .north *ℤ b .north +ℤ a .east *ℤ b .east
+
+-- v·v, which is never negative
+unfoldable pub squareOf : Vector → ℕ
+squareOf v = natAbs (dotOf v v)
+
+-- "χ+1024" to the right, "χ−1024" to the left
+unfoldable pub sidewaysOf : ℕ → Bool → ℕ
+sidewaysOf χ right = choose right (wrapOf (pos χ +ℤ pos 1024)) (wrapOf (pos χ -ℤ pos 1024))
+
+-- "floor(R·(both turns)·355/231,424)"
+unfoldable pub arcOf : ℕ → ℕ → ℕ
+arcOf R turns = R * turns * 355 / 231424
