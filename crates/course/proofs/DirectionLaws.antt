@@ -12,7 +12,7 @@ use Rattle.course.specs.Table.{sineOf}
 use Rattle.course.specs.Vectors.{Near, plain, cross, squaredLength}
 use Rattle.course.specs.Direction.{quarter, turned, directionOf, TableFacts}
 use Rattle.course.proofs.VectorLaws.{vector}
-use Rattle.course.proofs.TableLaws.{table-rule, sine-0}
+use Rattle.course.proofs.TableLaws.{table-rule, sine-0, sine-most}
 
 -- ---- quarter turns
 pub four-quarters : (u : Vector) → quarter (quarter (quarter (quarter u))) ≡ u
@@ -115,6 +115,12 @@ next-dec k (no p) =
 
 pub direction-next : (k : ℕ) → directionOf (suc k) ≡ turned (k / 1024) (first (suc (k % 1024)))
 direction-next k = next-dec k (decLt (k % 1024) 1023)
+
+pub direction-near : (k : ℕ) → Near 16384 (directionOf k)
+direction-near k =
+    let j = k % 1024 in
+    subst (Near 16384) (sym (direction-here k))
+    (turned-near (k / 1024) (first j) (record { north = record { within = sine-most (1024 - j) (omega arith) }; east = record { within = sine-most j (omega arith) } }))
 
 -- ---- document 01's three facts
 length-here : (k : ℕ) → squaredLength (directionOf k) ≡ squaredLength (first (k % 1024))

@@ -5,3 +5,4 @@ pub mod EdgeLaws
 pub mod SectorLaws
 pub mod BearingLaws
 pub mod QuarterLaws
+pub mod OffsetLaws

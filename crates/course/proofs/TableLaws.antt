@@ -18,7 +18,7 @@ and-right true b t = t
 and-right false b t = absurd t
 
 -- ---- a test at every number below n
-all : (ℕ → Bool) → ℕ → Bool
+unfoldable pub all : (ℕ → Bool) → ℕ → Bool
 all f zero = true
 all f (suc n) = f n && all f n
 
@@ -26,7 +26,7 @@ at-dec : (f : ℕ → Bool) (n k : ℕ) → T (f n) → (k < n → T (f k)) → 
 at-dec f n k h g (yes p) l = g p
 at-dec f n k h g (no p) l = subst (λ (m : ℕ). T (f m)) (omega arith) h
 
-at : (f : ℕ → Bool) (n : ℕ) → T (all f n) → (k : ℕ) → k < n → T (f k)
+pub at : (f : ℕ → Bool) (n : ℕ) → T (all f n) → (k : ℕ) → k < n → T (f k)
 unfolding all
 at f zero t k h = absurd (omega arith)
 at f (suc n) t k h = at-dec f n k (and-left (f n) (all f n) t) (at f n (and-right (f n) (all f n) t) k) (decLt k n) h

@@ -18,6 +18,10 @@ unfolding wrapOf
 wrap-lt (pos n) = omega arith
 wrap-lt (negsuc n) = omega arith
 
+-- a result that is a course, and so below 4,096
+pub wrap-low : {r : ℕ} (z : ℤ) → r ≡ wrapOf z → (r ≡ wrapOf z) × (r < 4096)
+wrap-low z e = (e, omega (arith, e, wrap-lt z))
+
 -- what the code computes
 pub rem-within : (z : ℤ) → Within 4095 (remZ z (pos 4096))
 rem-within z = record { within = omega (arith, abs-rem z (pos 4096)) }

@@ -7,7 +7,6 @@ use lib.IntN.{ℤ, pos, negsuc, natAbs, negℤ, _+ℤ_, _-ℤ_, _*ℤ_}
 use Rattle.integers.specs.Bounds.{Within}
 use Rattle.integers.specs.Choose.{choose}
 use Rattle.integers.specs.Wrap.{wrapOf}
-use Rattle.integers.specs.Root.{rootOf}
 use Rattle.integers.proofs.BoundLaws.{within-plus, within-less, within-mul}
 use Rattle.integers.proofs.Magnitudes.{square}
 use Rattle.integers.proofs.RootLaws.{root-lt}
@@ -15,7 +14,9 @@ use Rattle.integers.proofs.WrapLaws.{wrap-lt}
 use Rattle.course.specs.declared.Vector.{Vector}
 use Rattle.course.specs.Vectors.{Near, plain, cross}
 use Rattle.course.proofs.VectorLaws.{vector}
-use Rattle.plane.specs.Level.{plus, minus, dotOf, squareOf, sidewaysOf}
+use Rattle.plane.specs.declared.Point.{Point}
+use Rattle.plane.specs.Area.{InArea, levelOf}
+use Rattle.plane.specs.Level.{plus, minus, levelLegOf, dotOf, squareOf, lengthOf, sidewaysOf}
 
 pub plus-near : (a b : Vector) {m n : ℕ} → Near m a → Near n b → Near (m + n) (plus a b)
 unfolding plus
@@ -24,6 +25,10 @@ plus-near a b h k = record { north = within-plus (a .north) (b .north) (h .north
 pub minus-near : (a b : Vector) {m n : ℕ} → Near m a → Near n b → Near (m + n) (minus a b)
 unfolding minus
 minus-near a b h k = record { north = within-less (a .north) (b .north) (h .north) (k .north); east = within-less (a .east) (b .east) (h .east) (k .east) }
+
+pub level-leg-near : (a b : Point) → InArea a → InArea b → Near 1000000 (levelLegOf a b)
+unfolding levelLegOf levelOf
+level-leg-near a b h k = minus-near (levelOf b) (levelOf a) (record { north = k .north; east = k .east }) (record { north = h .north; east = h .east })
 
 pub dot-within : (a b : Vector) {m n : ℕ} → Near m a → Near n b → Within (m * n + m * n) (dotOf a b)
 unfolding dotOf
@@ -57,3 +62,7 @@ pub sideways-low : (k : ℕ) (right : Bool) → sidewaysOf k right < 4096
 unfolding sidewaysOf choose
 sideways-low k true = wrap-lt (pos k +ℤ pos 1024)
 sideways-low k false = wrap-lt (pos k -ℤ pos 1024)
+
+pub length-le : (v : Vector) → Near 2000000 v → lengthOf v ≤ 2828427
+unfolding lengthOf
+length-le v h = omega (arith, root-lt (squareOf v) 2828428 (omega (arith, square-le v h)))

@@ -4,7 +4,10 @@ use Prim.Native.Nat.{ℕ, _*_, _/_}
 use lib.IntN.{ℤ, pos, natAbs, _+ℤ_, _-ℤ_, _*ℤ_}
 use Rattle.integers.specs.Choose.{choose}
 use Rattle.integers.specs.Wrap.{wrapOf}
+use Rattle.integers.specs.Root.{rootOf}
 use Rattle.course.specs.declared.Vector.{Vector}
+use Rattle.plane.specs.declared.Point.{Point}
+use Rattle.plane.specs.Area.{levelOf}
 
 unfoldable pub plus : Vector → Vector → Vector
 plus a b = record { north = a .north +ℤ b .north; east = a .east +ℤ b .east }
@@ -12,12 +15,20 @@ plus a b = record { north = a .north +ℤ b .north; east = a .east +ℤ b .east 
 unfoldable pub minus : Vector → Vector → Vector
 minus a b = record { north = a .north -ℤ b .north; east = a .east -ℤ b .east }
 
+-- the leg from a to b in north and east
+unfoldable pub levelLegOf : Point → Point → Vector
+levelLegOf a b = minus (levelOf b) (levelOf a)
+
 unfoldable pub dotOf : Vector → Vector → ℤ
 dotOf a b = a .north *ℤ b .north +ℤ a .east *ℤ b .east
 
 -- v·v, which is never negative
 unfoldable pub squareOf : Vector → ℕ
 squareOf v = natAbs (dotOf v v)
+
+-- "root of its squared length"
+unfoldable pub lengthOf : Vector → ℕ
+lengthOf v = rootOf (squareOf v)
 
 -- "χ+1024" to the right, "χ−1024" to the left
 unfoldable pub sidewaysOf : ℕ → Bool → ℕ

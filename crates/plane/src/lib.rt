@@ -3,11 +3,10 @@ use course::Vector;
 ghost use mathlib.Core.Path.{_≡_};
 ghost use Prim.Native.Nat.{_≤_, _<_};
 ghost use Rattle.integers.specs.Bounds.{Within};
-ghost use Rattle.integers.specs.Wide.{base};
 ghost use Rattle.course.specs.Vectors.{Near, cross};
 ghost use Rattle.course.specs.Direction.{directionOf};
 ghost use Rattle.plane.specs.Area.{InArea, IsLeg, legOf, levelOf};
-ghost use Rattle.plane.specs.Level.{plus, minus, dotOf, squareOf, sidewaysOf, arcOf};
+ghost use Rattle.plane.specs.Level.{plus, minus, levelLegOf, dotOf, squareOf, lengthOf, sidewaysOf, arcOf};
 ghost use Rattle.plane.specs.Half.{dot3Of, square3Of, halfPlane, metOf, minorSize, crossSize, oppositeOf};
 
 // A point of a plan or a position, in decimetres.
@@ -69,6 +68,14 @@ pub fn sum(a: Vector, b: Vector) -> Vector
     }
 }
 
+// What lies from one point to another in north and east.
+pub fn level_leg(a: Point, b: Point) -> Vector
+    requires { ⌜ InArea a × InArea b ⌝ }
+    ensures { λ r. ⌜ (r ≡ levelLegOf a b) × Near 1000000 r ⌝ }
+{
+    between(level(a), level(b))
+}
+
 // a·b
 pub fn dot(a: Vector, b: Vector) -> i64
     requires { ⌜ Near 2000000 a × Near 2000000 b ⌝ }
@@ -91,6 +98,14 @@ pub fn squared(v: Vector) -> u64
     ensures { λ r. ⌜ (r ≡ squareOf v) × (r ≤ 8000000000000) ⌝ }
 {
     integers::magnitude(dot(v, v))
+}
+
+// The length of v, rounded down.
+pub fn length(v: Vector) -> u64
+    requires { ⌜ Near 2000000 v ⌝ }
+    ensures { λ r. ⌜ (r ≡ lengthOf v) × (r ≤ 2828427) ⌝ }
+{
+    integers::root(squared(v))
 }
 
 // d·D(k)

@@ -1,0 +1,2 @@
+pub mod TangentLaws
+pub mod CornerLaws

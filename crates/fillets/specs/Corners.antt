@@ -1,0 +1,60 @@
+-- Document 01, "Fillets": the turn at a corner, its tangent length, and its arc. Assumes nothing.
+use mathlib.Core.Bool.{Bool}
+use Prim.Native.Nat.{ℕ, _-_, _*_, _/_, _≤_}
+use lib.Dec.{leb}
+use lib.IntN.{pos, natAbs, _+ℤ_, _-ℤ_}
+use lib.Signed.{leZ}
+use Rattle.integers.specs.Choose.{choose}
+use Rattle.integers.specs.Wrap.{wrapOf}
+use Rattle.course.specs.declared.Vector.{Vector}
+use Rattle.course.specs.Vectors.{Near, cross}
+use Rattle.course.specs.Direction.{directionOf}
+use Rattle.course.specs.Bearing.{bearingOf}
+use Rattle.course.specs.Offset.{offsetOf}
+use Rattle.plane.specs.declared.Point.{Point}
+use Rattle.plane.specs.Area.{levelOf}
+use Rattle.plane.specs.Level.{plus, minus, levelLegOf, sidewaysOf}
+use Rattle.fillets.specs.declared.Corner.{Corner}
+
+-- "Turn τ is the lesser way round between the leg bearings"
+unfoldable pub lesserTurn : ℕ → ℕ → ℕ
+lesserTurn j k = choose (leb (wrapOf (pos k -ℤ pos j)) 2048) (wrapOf (pos k -ℤ pos j)) (4096 - wrapOf (pos k -ℤ pos j))
+
+unfoldable pub turnBetween : Vector → Vector → ℕ
+turnBetween a b = lesserTurn (bearingOf a) (bearingOf b)
+
+unfoldable pub turnOf : Point → Point → Point → ℕ
+turnOf before point after = turnBetween (levelLegOf before point) (levelLegOf point after)
+
+-- "(C, S) = D(τ); tangent length T = floor(R·S / (16,384 + C))". It is asked for τ up to 1,792 only, where S ≥ 0 and 16,384 + C > 0: the
+-- law tangent-signs of proofs/TangentLaws.
+unfoldable pub tangentOf : ℕ → ℕ → ℕ
+tangentOf R τ = R * natAbs (directionOf τ .east) / natAbs (pos 16384 +ℤ directionOf τ .north)
+
+-- "Sense +1 when cross(a, b) ≥ 0, else −1": whether it is +1
+unfoldable pub rightOf : Vector → Vector → Bool
+rightOf a b = leZ (pos 0) (cross a b)
+
+-- "z1 = point − off(T, bearing a), z2 = point + off(T, bearing b)", "Centre = z1 + off(R, bearing a + 1024·sense)", for legs that bear j and k
+unfoldable pub roundedOf : Vector → ℕ → ℕ → Bool → ℕ → ℕ → Corner
+roundedOf point j k right R T =
+    record {
+      tangent = T;
+      right = right;
+      z1 = minus point (offsetOf T j);
+      z2 = plus point (offsetOf T k);
+      centre = plus (minus point (offsetOf T j)) (offsetOf R (sidewaysOf j right));
+    }
+
+-- the corner at a point between two others
+unfoldable pub cornerOf : Point → Point → Point → ℕ → Corner
+cornerOf before point after R =
+    roundedOf (levelOf point) (bearingOf (levelLegOf before point)) (bearingOf (levelLegOf point after))
+    (rightOf (levelLegOf before point) (levelLegOf point after)) R (tangentOf R (turnOf before point after))
+
+-- how far a corner's parts go
+pub record IsCorner (c : Corner) : Type 0 where
+  pub tangent : c .tangent ≤ 50280
+  pub z1 : Near 550280 (c .z1)
+  pub z2 : Near 550280 (c .z2)
+  pub centre : Near 560280 (c .centre)
