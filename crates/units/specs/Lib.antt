@@ -1,0 +1,4 @@
+pub mod Decimetres
+pub mod Pattern
+pub mod Position
+pub mod Metres

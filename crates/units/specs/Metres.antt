@@ -1,0 +1,31 @@
+-- Document 01: "in f32 metres: the whole number divided by 10, rounded once. A Dubins direction is D/16,384, exact". Assumes nothing.
+use mathlib.Core.Path.{_≡_}
+use mathlib.Core.Bool.{Bool, true, false, not}
+use Prim.Native.Nat.{ℕ}
+use lib.Dec.{T}
+use lib.IntN.{ℤ, pos, natAbs}
+use lib.Signed.{nonNeg}
+use lib.Ieee.{Float, inf, fin, binary32, div, fits, isNan, ofInt}
+use lib.Ieee.Exact.{HasValue}
+
+-- z / c: both are converted, and the quotient is rounded. Up to 2^24 in size the conversions are exact.
+unfoldable pub quotientOf : ℤ → ℕ → Float
+quotientOf z c = div binary32 (ofInt binary32 z) (ofInt binary32 (pos c))
+
+unfoldable pub metresOf : ℤ → Float
+metresOf d = quotientOf d 10
+
+unfoldable pub directionPartOf : ℤ → Float
+directionPartOf x = quotientOf x 16384
+
+-- x is z / c exactly
+abbrev pub Exactly : Float → ℤ → ℕ → Type 0
+Exactly x z c = HasValue x (not (nonNeg z)) (natAbs z) c
+
+-- "Commands are equal bit for bit": an f32 that is a number and not −0.0. Two such are equal exactly where their bits are (same-bits of
+-- proofs/QuotientLaws).
+pub record Plain (x : Float) : Type 0 where
+  pub held : T (fits binary32 x)
+  pub number : isNan x ≡ false
+  pub finite : (s : Bool) → x ≡ inf s → ⊥
+  pub no-minus-zero : (e : ℤ) → x ≡ fin true 0 e → ⊥
