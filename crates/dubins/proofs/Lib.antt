@@ -1,0 +1,3 @@
+pub mod PathBounds
+pub mod ExistenceLaws
+pub mod ShortestLaws

@@ -1,0 +1,45 @@
+-- `far_apart` decides whether the ends are three radii apart. Assumes nothing.
+use native.Mathlib.Nat.{mul-le-mul}
+use native.Mathlib.Omega.{arith}
+use borrow.Author.Needs.{needs}
+use Rattle.dubins.specs.Choice.{farApart}
+use Rattle.dubins.proofs.far_apart.Statement.{statement}
+use Rattle.dubins.proofs.far_apart.Tie as tie
+
+level-requires : tie.Need-level-requires
+level-requires c κs = search needs
+
+level-requires-2 : tie.Need-level-requires-2
+level-requires-2 c κs = search needs
+
+between-requires : tie.Need-between-requires
+between-requires c κs = search needs
+
+mul-result : tie.Need-mul-result
+mul-result c = search needs
+
+mul-result-2 : tie.Need-mul-result-2
+mul-result-2 c =
+    let s = c .before .before .before in
+    omega (arith, mul-le-mul (s .pre .1 .1) (s .pre .1 .1))
+
+squared-requires : tie.Need-squared-requires
+squared-requires c κs = search needs
+
+returns : tie.Need-returns
+unfolding farApart
+returns c =
+    let d = c .before .before in
+    simp (c .squared .ensures .0, c .before .between .ensures .0, d .level2 .ensures .0, d .before .level .ensures .0)
+
+pub far-apart-spec : {M : Type 1} → statement M
+far-apart-spec =
+    tie.close
+    (tie.spec
+    level-requires
+    level-requires-2
+    between-requires
+    mul-result
+    mul-result-2
+    squared-requires
+    returns)

@@ -1,0 +1,277 @@
+// The four cases of a Dubins leg and the shortest of them (document 01, "Dubins").
+use course::Vector;
+use plane::Point;
+ghost use mathlib.Core.Path.{_≡_};
+ghost use mathlib.Core.Bool.{true};
+ghost use Prim.Native.Nat.{_≤_, _<_};
+ghost use Rattle.course.specs.Vectors.{Near};
+ghost use Rattle.plane.specs.Area.{InArea};
+ghost use Rattle.dubins.specs.Limits.{IsEnds, IsCircles, IsPath, IsFound};
+ghost use Rattle.dubins.specs.Cases.{startsRight, endsRight, sameSide, centreOf, circlesOf, tangentExists, straightOf, innerTangent, courseOf, turnOf, touchOf, pathOf, caseExists};
+ghost use Rattle.dubins.specs.Choice.{casePath, shorterOf, shortestOf, hasPathOf, farApart};
+
+// The ends of a leg: its points, the courses to leave and to arrive on, the radius of the circles.
+pub struct Ends {
+    pub start: Point,
+    pub leave: usize,
+    pub end: Point,
+    pub arrive: usize,
+    pub radius: u64,
+}
+
+// The circles of a case: their centres, and v from the start's to the end's.
+struct Circles {
+    start: Vector,
+    end: Vector,
+    v: Vector,
+}
+
+// A leg by one case, 1 to 4 for RSR, RSL, LSR, LSL: the centres of its circles, the course of the straight part from z1 to z2, the
+// length of the whole.
+pub struct Path {
+    pub case: u8,
+    pub course: usize,
+    pub length: u64,
+    pub start: Vector,
+    pub end: Vector,
+    pub z1: Vector,
+    pub z2: Vector,
+}
+
+// The shortest of the cases that were asked for, or that none of them exists.
+pub enum Found {
+    Shortest(Path),
+    Missing,
+}
+
+// Whether the start circle of a case is a right one: RSR and RSL.
+pub fn starts_right(case: u8) -> bool
+    ensures { λ r. ⌜ r ≡ startsRight case ⌝ }
+{
+    case <= 2
+}
+
+// Whether the end circle of a case is a right one: RSR and LSR.
+pub fn ends_right(case: u8) -> bool
+    ensures { λ r. ⌜ r ≡ endsRight case ⌝ }
+{
+    case % 2 == 1
+}
+
+// Whether both circles of a case lie on the same side: RSR and LSL.
+fn same_side(case: u8) -> bool
+    ensures { λ r. ⌜ r ≡ sameSide case ⌝ }
+{
+    if starts_right(case) {
+        ends_right(case)
+    } else {
+        !ends_right(case)
+    }
+}
+
+// The centre of the circle to the right or to the left of a point with a course.
+fn centre(p: Point, radius: u64, course: usize, right: bool) -> Vector
+    requires { ⌜ InArea p × ((radius ≤ 10000) × (course < 4096)) ⌝ }
+    ensures { λ r. ⌜ (r ≡ centreOf p radius course right) × Near 510000 r ⌝ }
+{
+    let side = plane::sideways(course, right);
+    let across = course::offset(radius, side);
+    let from = plane::level(p);
+    plane::sum(from, across)
+}
+
+// The circles of a case of a leg.
+fn circles_of(ends: Ends, case: u8) -> Circles
+    requires { ⌜ IsEnds ends ⌝ }
+    ensures { λ r. ⌜ (r ≡ circlesOf ends case) × IsCircles r ⌝ }
+{
+    let from = ends.start;
+    let to = ends.end;
+    let start = centre(from, ends.radius, ends.leave, starts_right(case));
+    let end = centre(to, ends.radius, ends.arrive, ends_right(case));
+    let v = plane::between(start, end);
+    Circles { start, end, v }
+}
+
+// Whether the circles of a case, v apart, have the tangent that it flies along.
+fn tangent_exists(v: Vector, radius: u64, case: u8) -> bool
+    requires { ⌜ Near 1020000 v × (radius ≤ 10000) ⌝ }
+    ensures { λ r. ⌜ r ≡ tangentExists case radius v ⌝ }
+{
+    let square = plane::squared(v);
+    if same_side(case) {
+        0 < square
+    } else {
+        4 * radius * radius <= square
+    }
+}
+
+// The length of the straight part. Where the case exists, the root is of no negative number.
+fn straight(v: Vector, radius: u64, case: u8) -> u64
+    requires { ⌜ Near 1020000 v × ((radius ≤ 10000) × (tangentExists case radius v ≡ true)) ⌝ }
+    ensures { λ r. ⌜ (r ≡ straightOf case radius v) × (r ≤ 1442497) ⌝ }
+{
+    let square = plane::squared(v);
+    if same_side(case) {
+        integers::root(square)
+    } else {
+        integers::root(square - 4 * radius * radius)
+    }
+}
+
+// A vector along the straight part of RSL, which starts right, or of LSR; s is its length.
+fn inner_tangent(v: Vector, s: u64, radius: u64, right: bool) -> Vector
+    requires { ⌜ Near 1020000 v × ((s ≤ 1442497) × (radius ≤ 10000)) ⌝ }
+    ensures { λ r. ⌜ (r ≡ innerTangent right radius s v) × Near 1491746940000 r ⌝ }
+{
+    let length = s as i64;
+    let width = (2 * radius) as i64;
+    if right {
+        Vector {
+            north: length * v.north - width * v.east,
+            east: length * v.east + width * v.north,
+        }
+    } else {
+        Vector {
+            north: length * v.north + width * v.east,
+            east: length * v.east - width * v.north,
+        }
+    }
+}
+
+// The course of the straight part of length s.
+fn straight_course(v: Vector, s: u64, radius: u64, case: u8) -> usize
+    requires { ⌜ Near 1020000 v × ((s ≤ 1442497) × (radius ≤ 10000)) ⌝ }
+    ensures { λ r. ⌜ (r ≡ courseOf case radius s v) × (r < 4096) ⌝ }
+{
+    if same_side(case) {
+        course::bearing(v)
+    } else {
+        course::bearing(inner_tangent(v, s, radius, starts_right(case)))
+    }
+}
+
+// How far a right or a left turn goes from one course to another.
+fn turn(from: usize, to: usize, right: bool) -> u64
+    requires { ⌜ (from < 4096) × (to < 4096) ⌝ }
+    ensures { λ r. ⌜ (r ≡ turnOf from to right) × (r < 4096) ⌝ }
+{
+    if right {
+        ((to + 4096 - from) % 4096) as u64
+    } else {
+        ((from + 4096 - to) % 4096) as u64
+    }
+}
+
+// Where a straight part with a course touches a right or a left circle.
+fn touch(centre: Vector, radius: u64, course: usize, right: bool) -> Vector
+    requires { ⌜ Near 510000 centre × ((radius ≤ 10000) × (course < 4096)) ⌝ }
+    ensures { λ r. ⌜ (r ≡ touchOf centre radius course right) × Near 520000 r ⌝ }
+{
+    let side = plane::sideways(course, !right);
+    let across = course::offset(radius, side);
+    plane::sum(centre, across)
+}
+
+// The leg by a case, from its circles and the length and the course of its straight part.
+fn path_of(ends: Ends, case: u8, circles: Circles, s: u64, course: usize) -> Path
+    requires { ⌜ (IsEnds ends × ((1 ≤ case) × (case ≤ 4))) × (IsCircles circles × ((s ≤ 1442497) × (course < 4096))) ⌝ }
+    ensures { λ r. ⌜ (r ≡ pathOf ends case circles s course) × IsPath r ⌝ }
+{
+    let start = circles.start;
+    let end = circles.end;
+    let first = starts_right(case);
+    let last = ends_right(case);
+    let start_turn = turn(ends.leave, course, first);
+    let end_turn = turn(course, ends.arrive, last);
+    let length = s + plane::arc(ends.radius, start_turn + end_turn);
+    let z1 = touch(start, ends.radius, course, first);
+    let z2 = touch(end, ends.radius, course, last);
+    Path {
+        case,
+        course,
+        length,
+        start,
+        end,
+        z1,
+        z2,
+    }
+}
+
+// Whether a case of a leg exists.
+fn case_exists(ends: Ends, case: u8) -> bool
+    requires { ⌜ IsEnds ends ⌝ }
+    ensures { λ r. ⌜ r ≡ caseExists ends case ⌝ }
+{
+    let circles = circles_of(ends, case);
+    let v = circles.v;
+    tangent_exists(v, ends.radius, case)
+}
+
+// The leg by a case, where that exists.
+fn case_path(ends: Ends, case: u8) -> Found
+    requires { ⌜ IsEnds ends × ((1 ≤ case) × (case ≤ 4)) ⌝ }
+    ensures { λ r. ⌜ (r ≡ casePath ends case) × IsFound r ⌝ }
+{
+    let circles = circles_of(ends, case);
+    let v = circles.v;
+    if tangent_exists(v, ends.radius, case) {
+        let s = straight(v, ends.radius, case);
+        let course = straight_course(v, s, ends.radius, case);
+        Found::Shortest(path_of(ends, case, circles, s, course))
+    } else {
+        Found::Missing
+    }
+}
+
+// The shorter of two, the earlier on a tie.
+fn shorter(a: Found, b: Found) -> Found
+    requires { ⌜ IsFound a × IsFound b ⌝ }
+    ensures { λ r. ⌜ (r ≡ shorterOf a b) × IsFound r ⌝ }
+{
+    match b {
+        Found::Missing => a,
+        Found::Shortest(later) => match a {
+            Found::Missing => b,
+            Found::Shortest(earlier) => if earlier.length <= later.length { a } else { b },
+        },
+    }
+}
+
+// The shortest leg by any case.
+pub fn shortest_path(ends: Ends) -> Found
+    requires { ⌜ IsEnds ends ⌝ }
+    ensures { λ r. ⌜ (r ≡ shortestOf ends) × IsFound r ⌝ }
+{
+    let rsr = case_path(ends, 1);
+    let rsl = case_path(ends, 2);
+    let lsr = case_path(ends, 3);
+    let lsl = case_path(ends, 4);
+    shorter(shorter(shorter(rsr, rsl), lsr), lsl)
+}
+
+// Whether any case exists, with no bearing and no root worked out.
+pub fn has_path(ends: Ends) -> bool
+    requires { ⌜ IsEnds ends ⌝ }
+    ensures { λ r. ⌜ r ≡ hasPathOf ends ⌝ }
+{
+    if case_exists(ends, 1) {
+        return true;
+    }
+    if case_exists(ends, 2) {
+        return true;
+    }
+    if case_exists(ends, 3) {
+        return true;
+    }
+    case_exists(ends, 4)
+}
+
+// Whether the squared distance in north and east is at least 9 R².
+pub fn far_apart(a: Point, b: Point, radius: u64) -> bool
+    requires { ⌜ InArea a × (InArea b × (radius ≤ 10000)) ⌝ }
+    ensures { λ r. ⌜ r ≡ farApart a b radius ⌝ }
+{
+    let d = plane::between(plane::level(a), plane::level(b));
+    9 * radius * radius <= plane::squared(d)
+}

@@ -1,0 +1,86 @@
+-- Document 01, "One fix": what each phase commands, its heading, and what ends it. p is the position. Assumes nothing.
+use mathlib.Core.Bool.{Bool}
+use Prim.Native.Nat.{ℕ}
+use lib.Dec.{eqb, ltb}
+use lib.IntN.{pos}
+use lib.Signed.{leZ}
+use Rattle.integers.specs.Choose.{choose}
+use Rattle.course.specs.declared.Vector.{Vector}
+use Rattle.course.specs.Direction.{directionOf}
+use Rattle.plane.specs.declared.Point.{Point}
+use Rattle.plane.specs.Area.{legOf, levelOf}
+use Rattle.plane.specs.Level.{minus, dotOf, levelLegOf}
+use Rattle.plane.specs.Half.{metOf}
+use Rattle.fillets.specs.declared.Corner.{Corner}
+use Rattle.fillets.specs.Corners.{cornerOf}
+use Rattle.dubins.specs.declared.Ends.{Ends}
+use Rattle.dubins.specs.declared.Path.{Path}
+use Rattle.dubins.specs.Cases.{startsRight, endsRight}
+use Rattle.heading.specs.Heading.{lineHeading, circleHeading}
+use Rattle.guidance.specs.declared.Guidance.{Guidance}
+use Rattle.guidance.specs.Commands.{lineCommand, courseCommand, circleCommand}
+
+-- p less a place, in north and east
+unfoldable pub fromOf : Vector → Point → Vector
+fromOf place p = minus (levelOf p) place
+
+-- "Line with level direction q", q being "the whole-number leg"
+unfoldable pub legHeading : Point → Point → Point → ℕ
+legHeading a b p = lineHeading (levelLegOf a b) (fromOf (levelOf a) p)
+
+-- Lines: "the line from point i−1 with the leg as direction", until the half-plane of point i. a, b, c are the points i−1, i, i+1.
+unfoldable pub lineGuide : Point → Point → Point → Point → Guidance
+lineGuide a b c p = record { command = lineCommand a b; heading = legHeading a b p; passed = metOf (legOf b p) (legOf a b) (legOf b c) }
+
+-- a circle at the height of a point, and whether p ends the phase
+unfoldable pub circleGuide : Vector → Point → ℕ → Bool → Bool → Point → Guidance
+circleGuide centre height R right passed p =
+    record { command = circleCommand centre (height .down) R right; heading = circleHeading (fromOf centre p) R right; passed = passed }
+
+-- Fillets: "(p−z)·leg ≥ 0"
+unfoldable pub pastOf : Vector → Vector → Point → Bool
+pastOf z leg p = leZ (pos 0) (dotOf (fromOf z p) leg)
+
+-- "phase line commands the line that lines mode would", "until (p−z1)·a ≥ 0"
+unfoldable pub filletLine : Point → Point → Corner → Point → Guidance
+filletLine a b corner p = record { command = lineCommand a b; heading = legHeading a b p; passed = pastOf (corner .z1) (levelLegOf a b) p }
+
+-- "then circle until (p−z2)·b ≥ 0", "down of the point"
+unfoldable pub filletCircle : Point → Point → ℕ → Corner → Point → Guidance
+filletCircle b c R corner p = circleGuide (corner .centre) b R (corner .right) (pastOf (corner .z2) (levelLegOf b c) p) p
+
+-- phases "fillets 1 line and 2 circle"
+unfoldable pub filletGuide : Point → Point → Point → ℕ → ℕ → Point → Guidance
+filletGuide a b c R phase p = choose (eqb phase 1) (filletLine a b (cornerOf a b c R) p) (filletCircle b c R (cornerOf a b c R) p)
+
+-- Dubins: "(p−z)·D(k)", at least 0 or at most 0
+unfoldable pub reachedOf : Vector → ℕ → Point → Bool
+reachedOf z k p = leZ (pos 0) (dotOf (fromOf z p) (directionOf k))
+
+unfoldable pub shortOf : Vector → ℕ → Point → Bool
+shortOf z k p = leZ (dotOf (fromOf z p) (directionOf k)) (pos 0)
+
+-- "Phases by (p−z1)·D(θ): 1 until ≤ 0, 2 until ≥ 0"
+unfoldable pub startPassed : Path → ℕ → Point → Bool
+startPassed path phase p = choose (eqb phase 1) (shortOf (path .z1) (path .course) p) (reachedOf (path .z1) (path .course) p)
+
+-- "4 until (p−point i)·D(χe) ≤ 0; 5 until ≥ 0"
+unfoldable pub endPassed : Point → ℕ → ℕ → Point → Bool
+endPassed end χe phase p = choose (eqb phase 4) (shortOf (levelOf end) χe p) (reachedOf (levelOf end) χe p)
+
+-- "3 (line from z1 along D(θ)) until (p−z2)·D(θ) ≥ 0"; "For the heading law q is .. D(θ)"
+unfoldable pub straightGuide : Point → Path → Point → Guidance
+straightGuide start path p =
+    record {
+      command = courseCommand (path .z1) (start .down) (path .course);
+      heading = lineHeading (directionOf (path .course)) (fromOf (path .z1) p);
+      passed = reachedOf (path .z2) (path .course) p;
+    }
+
+-- "Phases 1, 2 command the start circle, 4, 5 the end circle. Down: start point's for start circle and line, end point's after."
+unfoldable pub dubinsGuide : Ends → Path → ℕ → Point → Guidance
+dubinsGuide ends path phase p =
+    choose (eqb phase 3) (straightGuide (ends .start) path p)
+    (choose (ltb phase 3)
+    (circleGuide (path .start) (ends .start) (ends .radius) (startsRight (path .case)) (startPassed path phase p) p)
+    (circleGuide (path .end) (ends .end) (ends .radius) (endsRight (path .case)) (endPassed (ends .end) (ends .arrive) phase p) p))
