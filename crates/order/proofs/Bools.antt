@@ -24,6 +24,11 @@ pub both-off : (a b : Bool) → a ≡ false → both a b ≡ false
 unfolding both
 both-off a b t = rw t
 
+pub both-off-second : (a b : Bool) → b ≡ false → both a b ≡ false
+unfolding both
+both-off-second true b t = t
+both-off-second false b t = refl
+
 pub both-true : (a b : Bool) → a ≡ true → b ≡ true → both a b ≡ true
 both-true a b t u = both-on a b t ∙ u
 

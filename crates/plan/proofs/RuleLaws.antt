@@ -1,0 +1,148 @@
+-- Refusals 8 to 12 and 17: which one stands, that none has the number 0, and what a plan that passes says of its places. Assumes nothing.
+use mathlib.Core.Path.{_≡_, refl, sym, ap, _∙_}
+use mathlib.Core.Bool.{Bool, true, false}
+use Prim.Native.Nat.{ℕ, zero, suc, _+_, _-_, _≤_, _<_}
+use native.Mathlib.Omega.{arith}
+use lib.Dec.{eqb, ltb}
+use borrow.Author.Tests.{ltb-false, leb-true, le-leb, lt-leb}
+use Rattle.integers.specs.Choose.{choose}
+use Rattle.order.specs.declared.Refusal.{Refusal}
+use Rattle.order.specs.Outcome.{Outcome, good, refused, check, andThen, refusalOf, isGood}
+use Rattle.order.specs.Sweep.{Done, done, sweep}
+use Rattle.order.proofs.Bools.{clash}
+use Rattle.order.proofs.OutcomeLaws.{Proper, check-true, check-false, check-first, check-rest, then-good, then-refused, good-first, proper-check, proper-then}
+use Rattle.order.proofs.SweepLaws.{sweep-means, sweep-clean, sweep-done, proper-sweep}
+use Rattle.plane.specs.declared.Point.{Point}
+use Rattle.fillets.specs.Corners.{turnOf}
+use Rattle.dubins.specs.Choice.{hasPathOf, farApart}
+use Rattle.plan.specs.declared.Mode.{Mode}
+use Rattle.plan.specs.declared.Mode.the-variants.{Lines, Fillets, Dubins}
+use Rattle.plan.specs.Limits.{fewestPoints, mostPoints, mostTurn}
+use Rattle.plan.specs.Rules.{coursesFit, cornerNumber, endsNumber, legNumber, endsAt, pairAt, cornerAt, pairsOf, cornersOf, legsOf, geometryOn, rulesOn}
+
+-- ---- corners and legs that pass
+turn-low : (t : ℕ) (b : Bool) → ltb mostTurn t ≡ b → choose {A = ℕ} b 11 0 ≡ 0 → t ≤ mostTurn
+unfolding choose
+turn-low t true e h = absurd (omega arith)
+turn-low t false e h = ltb-false mostTurn t e
+
+path-has : (a b : Bool) → choose {A = ℕ} a (choose b 0 17) 12 ≡ 0 → b ≡ true
+unfolding choose
+path-has true true h = refl
+path-has true false h = absurd (omega arith)
+path-has false b h = absurd (omega arith)
+
+pub corner-turns : (n : ℕ) (at : ℕ → Point) → isGood (cornersOf Fillets n at) ≡ true
+    → (i : ℕ) → 1 ≤ i → i + 1 < n → turnOf (at (i - 1)) (at i) (at (i + 1)) ≤ mostTurn
+unfolding cornersOf cornerNumber
+corner-turns n at h i l m =
+    turn-low (turnOf (at (i - 1)) (at i) (at (i + 1))) (ltb mostTurn (turnOf (at (i - 1)) (at i) (at (i + 1)))) refl
+    (sweep-means (cornerAt Fillets at) (n - 1 - 1) 1 h i l (omega arith))
+
+pub leg-paths : (R n : ℕ) (at : ℕ → Point) (course : ℕ → ℕ) → isGood (legsOf Dubins R n at course) ≡ true
+    → (i : ℕ) → 1 ≤ i → i < n → hasPathOf (endsAt R at course (i - 1) i) ≡ true
+unfolding legsOf legNumber endsNumber
+leg-paths R n at course h i l m =
+    path-has (farApart (at (i - 1)) (at i) R) (hasPathOf (endsAt R at course (i - 1) i))
+    (sweep-means (legNumber Dubins R n at course) (n - 1) 1 h i l (omega arith))
+
+-- from the number 0 that the code saw
+pub corners-clean : (mode : Mode) (n : ℕ) (at : ℕ → Point) → refusalOf (cornersOf mode n at) .number ≡ 0 → isGood (cornersOf mode n at) ≡ true
+unfolding cornersOf
+corners-clean mode n at h = sweep-clean (cornerAt mode at) (n - 1 - 1) 1 h
+
+-- lines have no rule on legs
+pub line-legs : (R n : ℕ) (at : ℕ → Point) (course : ℕ → ℕ) → legsOf Lines R n at course ≡ good done
+unfolding legsOf legNumber sweep choose
+line-legs R n at course = pass (n - 1) 1
+  where
+    pass : (k i : ℕ) → sweep (legNumber Lines R n at course) k i ≡ good done
+    pass zero i = refl
+    pass (suc k) i = pass k (i + 1)
+
+-- the number of an answer of the code
+pub same-number : {r s : Refusal} → r ≡ s → s .number ≡ r .number
+same-number e = sym (ap (λ (r : Refusal). r .number) e)
+
+-- ---- pairs, corners, legs
+then-rest : (o : Outcome Done) (g : Done → Outcome Done) → isGood (andThen o g) ≡ true → isGood (g done) ≡ true
+unfolding isGood andThen
+then-rest (good done) g h = h
+then-rest (refused n p) g h = clash false h refl
+
+module _ (mode : Mode) (R n : ℕ) (at : ℕ → Point) (course : ℕ → ℕ) where
+  pub geometry-pairs : (refusalOf (pairsOf n at) .number ≡ 0 → ⊥) → refusalOf (geometryOn mode R n at course) ≡ refusalOf (pairsOf n at)
+  unfolding geometryOn
+  geometry-pairs h = then-refused _ _ h
+
+  after-pairs : refusalOf (pairsOf n at) .number ≡ 0
+      → geometryOn mode R n at course ≡ andThen (cornersOf mode n at) (λ (_ : Done). legsOf mode R n at course)
+  unfolding geometryOn pairsOf
+  after-pairs h = then-good _ done _ (sweep-done (pairAt at) (n - 1) 1 h)
+
+  pub geometry-corners : refusalOf (pairsOf n at) .number ≡ 0 → (refusalOf (cornersOf mode n at) .number ≡ 0 → ⊥)
+      → refusalOf (geometryOn mode R n at course) ≡ refusalOf (cornersOf mode n at)
+  geometry-corners h k = ap refusalOf (after-pairs h) ∙ then-refused _ _ k
+
+  pub geometry-legs : refusalOf (pairsOf n at) .number ≡ 0 → refusalOf (cornersOf mode n at) .number ≡ 0
+      → refusalOf (geometryOn mode R n at course) ≡ refusalOf (legsOf mode R n at course)
+  unfolding cornersOf
+  geometry-legs h k = ap refusalOf (after-pairs h ∙ then-good _ done _ (sweep-done (cornerAt mode at) (n - 1 - 1) 1 k))
+
+  proper-geometry : Proper (geometryOn mode R n at course)
+  unfolding geometryOn pairsOf cornersOf legsOf
+  proper-geometry =
+      proper-then _ _ (proper-sweep (pairAt at) (n - 1) 1)
+      (λ (_ : Done). proper-then _ _ (proper-sweep (cornerAt mode at) (n - 1 - 1) 1) (λ (_ : Done). proper-sweep (legNumber mode R n at course) (n - 1) 1))
+
+-- ---- 8 and 9 before them
+pub record Passed (mode : Mode) (R given n : ℕ) (at : ℕ → Point) (course : ℕ → ℕ) : Type 0 where
+  pub least : fewestPoints ≤ n
+  pub most : n ≤ mostPoints
+  pub courses : coursesFit R given n ≡ true
+  pub pairs : isGood (pairsOf n at) ≡ true
+  pub corners : isGood (cornersOf mode n at) ≡ true
+  pub legs : isGood (legsOf mode R n at course) ≡ true
+
+module _ (mode : Mode) (R given n : ℕ) (at : ℕ → Point) (course : ℕ → ℕ) where
+  pub rules-few : n < fewestPoints → rulesOn mode R given n at course ≡ refused 8 0
+  unfolding rulesOn
+  rules-few h = check-false _ 8 _ (lt-leb fewestPoints n h)
+
+  pub rules-many : fewestPoints ≤ n → mostPoints < n → rulesOn mode R given n at course ≡ refused 8 0
+  unfolding rulesOn
+  rules-many h k = check-true _ 8 _ (le-leb fewestPoints n h) ∙ check-false _ 8 _ (lt-leb n mostPoints k)
+
+  counted : fewestPoints ≤ n → n ≤ mostPoints → rulesOn mode R given n at course ≡ check (coursesFit R given n) 9 (geometryOn mode R n at course)
+  unfolding rulesOn
+  counted h k = check-true _ 8 _ (le-leb fewestPoints n h) ∙ check-true _ 8 _ (le-leb n mostPoints k)
+
+  pub rules-courses : fewestPoints ≤ n → n ≤ mostPoints → coursesFit R given n ≡ false → rulesOn mode R given n at course ≡ refused 9 0
+  rules-courses h k f = counted h k ∙ check-false _ 9 _ f
+
+  pub rules-geometry : fewestPoints ≤ n → n ≤ mostPoints → coursesFit R given n ≡ true → rulesOn mode R given n at course ≡ geometryOn mode R n at course
+  rules-geometry h k t = counted h k ∙ check-true _ 9 _ t
+
+  -- no refusal has the number 0
+  pub rules-proper : Proper (rulesOn mode R given n at course)
+  unfolding rulesOn
+  rules-proper = proper-check _ 8 _ refl (proper-check _ 8 _ refl (proper-check _ 9 _ refl (proper-geometry mode R n at course)))
+
+  pub rules-clean : refusalOf (rulesOn mode R given n at course) .number ≡ 0 → isGood (rulesOn mode R given n at course) ≡ true
+  rules-clean h = rules-proper ∙ ap (λ (k : ℕ). eqb k 0) h
+
+  pub rules-passed : isGood (rulesOn mode R given n at course) ≡ true → Passed mode R given n at course
+  unfolding rulesOn geometryOn
+  rules-passed h =
+      let a = check-rest _ 8 _ h in
+      let b = check-rest _ 8 _ a in
+      let g = check-rest _ 9 _ b in
+      let k = then-rest _ _ g in
+      record {
+        least = leb-true fewestPoints n (check-first _ 8 _ h);
+        most = leb-true n mostPoints (check-first _ 8 _ a);
+        courses = check-first _ 9 _ b;
+        pairs = good-first _ _ g;
+        corners = good-first _ _ k;
+        legs = then-rest _ _ k;
+      }

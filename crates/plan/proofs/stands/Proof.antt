@@ -1,0 +1,79 @@
+-- `stands` decides refusal 14's part on the plan. Assumes nothing.
+use mathlib.Core.Path.{sym, ap, _∙_}
+use mathlib.Core.Bool.{false}
+use Prim.Native.Nat.{ℕ}
+use native.Mathlib.Omega.{arith}
+use lib.Dec.{eqb}
+use borrow.Author.Needs.{needs}
+use Rattle.order.specs.Outcome.{refusalOf}
+use Rattle.order.proofs.Bools.{clash}
+use Rattle.plan.specs.Limits.{radiusFits}
+use Rattle.plan.specs.Stands.{placesFit, rulesOf, standsOf}
+use Rattle.plan.proofs.LimitLaws.{told}
+use Rattle.plan.proofs.StandLaws.{stands-found, stands-fails, stands-means}
+use Rattle.plan.proofs.stands.Statement.{statement}
+use Rattle.plan.proofs.stands.Tie as tie
+
+returns : tie.Need-returns
+returns c =
+    let p = c .before .before .args .p in
+    told false (standsOf p) (stands-means p) (sym (stands-fails p (λ t. t .serial (c .if1 .taken))))
+
+returns-2 : tie.Need-returns-2
+returns-2 c =
+    let p = c .before .before .before .before .args .p in
+    told false (standsOf p) (stands-means p) (sym (stands-fails p (λ t. omega (arith, t .most, c .if2 .taken))))
+
+radius-fits-requires : tie.Need-radius-fits-requires
+radius-fits-requires c κs = search needs
+
+places-fit-requires : tie.Need-places-fit-requires
+places-fit-requires c κs = search needs
+
+given-of-requires : tie.Need-given-of-requires
+given-of-requires c κs = search needs
+
+rules-requires : tie.Need-rules-requires
+rules-requires c κs =
+    let f = c .before .before in
+    let r = f .before .before in
+    let n = f .places-fit .ensures .1 (c .before .if4 .taken) in
+    record { ranged = n .0; radius = r .radius-fits .ensures .1 (f .before .if3 .taken); aimed = n .1 }
+
+returns-3 : tie.Need-returns-3
+returns-3 c =
+    let g = c .before .before in
+    let f = g .before .before in
+    let r = f .before .before in
+    let b = r .before in
+    let a = b .before .before in
+    let p = a .before .before .args .p in
+    let rules = c .before .rules in
+    told (eqb (rules .result .number) 0) (standsOf p) (stands-means p)
+    (stands-found p (a .if1 .left) (b .if2 .left) (sym (r .radius-fits .ensures .0) ∙ f .before .if3 .taken) (sym (f .places-fit .ensures .0) ∙ g .before .if4 .taken)
+    (rules .result) (rules .ensures ∙ ap (λ (n : ℕ). refusalOf (rulesOf p n)) (g .given-of .ensures)))
+
+returns-4 : tie.Need-returns-4
+returns-4 c =
+    let r = c .before .before .before in
+    let p = r .before .before .before .before .before .args .p in
+    told false (standsOf p) (stands-means p) (sym (stands-fails p (λ t. clash (placesFit p) (t .places) (sym (c .before .places-fit .ensures .0) ∙ c .if4 .left))))
+
+returns-5 : tie.Need-returns-5
+returns-5 c =
+    let p = c .before .before .before .before .before .before .args .p in
+    told false (standsOf p) (stands-means p) (sym (stands-fails p (λ t. clash (radiusFits (p .mode) (p .radius)) (t .radius) (sym (c .before .radius-fits .ensures .0) ∙ c .if3 .left))))
+
+pub stands-spec : {M : Type 1} → statement M
+stands-spec =
+    tie.close
+    (tie.spec
+    returns
+    returns-2
+    radius-fits-requires
+    places-fit-requires
+    given-of-requires
+    rules-requires
+    returns-3
+    returns-4
+    returns-5)

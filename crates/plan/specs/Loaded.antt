@@ -1,0 +1,33 @@
+-- The plan that a file's lists make, and what a reader knows of them once 8 to 12 and 17 have passed. Assumes nothing.
+use mathlib.Core.Path.{_≡_}
+use mathlib.Core.Bool.{true}
+use mathlib.Core.List.{List}
+use mathlib.Core.Logic.{_⊎_}
+use Prim.Native.Nat.{ℕ, _≤_, _<_}
+use lib.ListN.{length}
+use Rattle.order.specs.Outcome.{isGood}
+use Rattle.plane.specs.declared.Point.{Point}
+use Rattle.plane.specs.Area.{InArea}
+use Rattle.plan.specs.declared.Plan.{Plan}
+use Rattle.plan.specs.Limits.{mostPoints, leastRadius, mostRadius, courses}
+use Rattle.plan.specs.Places.{noPoint, pointsAt, coursesAt, padded}
+use Rattle.plan.specs.Rules.{modeOf, rulesOn}
+
+-- a radius of 0 stands for none; the courses are those of the first points
+abbrev pub planOf : ℕ → ℕ → List Point → List ℕ → Plan
+planOf serial R ps cs =
+    record {
+      serial = serial;
+      mode = modeOf R (length cs);
+      radius = R;
+      count = length ps;
+      points = padded mostPoints noPoint ps;
+      courses = padded mostPoints 0 cs;
+    }
+
+pub record Loads (serial R : ℕ) (ps : List Point) (cs : List ℕ) : Type 0 where
+  pub numbered : serial ≡ 0 → ⊥
+  pub radius : (R ≡ 0) ⊎ ((leastRadius ≤ R) × (R ≤ mostRadius))
+  pub ranged : (i : ℕ) → i < length ps → InArea (pointsAt ps i)
+  pub aimed : (i : ℕ) → i < length cs → coursesAt cs i < courses
+  pub rules : isGood (rulesOn (modeOf R (length cs)) R (length cs) (length ps) (pointsAt ps) (coursesAt cs)) ≡ true
