@@ -100,9 +100,11 @@ module _ (s : State) (v : Valid s) where
       let inner = fillets-inner e in
       let h : ByMode Fillets p = subst (λ (m : Mode). ByMode m p) e (v .stands .mode) in
       let before : i - 1 - 1 ≡ i - 2 = omega arith in
-      let after : i - 1 + 1 ≡ i = omega arith in
-      (h .0, subst (λ (j : ℕ). turnOf (pointOf p j) (pointOf p (i - 1)) (pointOf p i) ≤ mostTurn) before
-      (subst (λ (j : ℕ). turnOf (pointOf p (i - 1 - 1)) (pointOf p (i - 1)) (pointOf p j) ≤ mostTurn) after (h .1 (i - 1) (omega arith) (omega arith))))
+      let after : i - 1 + 1 ≡ i = omega arith in (
+        h .0,
+        subst (λ (j : ℕ). turnOf (pointOf p j) (pointOf p (i - 1)) (pointOf p i) ≤ mostTurn) before
+            (subst (λ (j : ℕ). turnOf (pointOf p (i - 1 - 1)) (pointOf p (i - 1)) (pointOf p j) ≤ mostTurn) after (h .1 (i - 1) (omega arith) (omega arith))),
+      )
 
   -- ---- Dubins: the leg's ends, and its path
   pub dubins-ends : s .plan .mode ≡ Dubins → IsEnds (endsOf (s .plan) (s .index))

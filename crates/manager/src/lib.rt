@@ -44,7 +44,9 @@ pub struct Stepped {
 
 // Document 01's numbers that a fix is refused with.
 pub const NO_POSITION: u8 = 13;
+
 pub const NO_STATE: u8 = 14;
+
 pub const OTHER_SERIAL: u8 = 15;
 
 // The state of no plan, which every fix and write refuses.
