@@ -1,1 +1,3 @@
 pub mod StarredLaws
+pub mod NumberLaws
+pub mod PlanLaws

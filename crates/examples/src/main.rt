@@ -1,4 +1,7 @@
-// Runs document 01's checked examples through the compiled code, a line for each.
+// Runs document 01's checked examples through the compiled code, a line for each, and then the flights on standard input.
+mod flights;
+mod plans;
+
 use course::Vector;
 use dubins::Ends;
 use dubins::Found;
@@ -15,11 +18,15 @@ fn write(text: &[u8]) {
     io::write_all(STDOUT_FILENO, text);
 }
 
+fn write_decimal(n: u64) {
+    io::print_decimal(STDOUT_FILENO, n);
+}
+
 fn write_number(x: i64) {
     if x < 0 {
         write(b"-");
     }
-    io::print_decimal(STDOUT_FILENO, integers::magnitude(x));
+    write_decimal(integers::magnitude(x));
 }
 
 fn write_vector(v: Vector) {
@@ -153,7 +160,7 @@ fn show_leg(end: Point, arrive: usize)
             let z2 = p.z2;
             write_case(p.case);
             write(b" length ");
-            io::print_decimal(STDOUT_FILENO, p.length);
+            write_decimal(p.length);
             write(b" z1 ");
             write_vector(z1);
             write(b" z2 ");
@@ -215,4 +222,6 @@ fn main() {
     show_line_heading(vector(0, 500));
     show_circle_heading(vector(1000, 0));
     show_circle_heading(vector(0, 0));
+    plans::show();
+    flights::fly();
 }

@@ -1,0 +1,27 @@
+-- `signed` reads two's complement with no overflow. Assumes nothing.
+use borrow.Author.Needs.{needs}
+use Rattle.examples.proofs.NumberLaws.{signed-fits}
+use Rattle.examples.proofs.flights.signed.Statement.{statement}
+use Rattle.examples.proofs.flights.signed.Tie as tie
+
+cast-result : tie.Need-cast-result
+cast-result c = search needs
+
+returns : tie.Need-returns
+returns c = search needs
+
+sub-result : tie.Need-sub-result
+sub-result c = search needs
+
+cast-result-2 : tie.Need-cast-result-2
+cast-result-2 c = search needs
+
+sub-result-2 : tie.Need-sub-result-2
+sub-result-2 c = signed-fits (c .before .args .bits) (c .if1 .left) (c .before .fits .bits .fits)
+
+returns-2 : tie.Need-returns-2
+returns-2 c = search needs
+
+pub signed-spec : {M : Type 1} → statement M
+signed-spec =
+    tie.close (tie.spec cast-result returns sub-result cast-result-2 sub-result-2 returns-2)
