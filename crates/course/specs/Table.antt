@@ -1,5 +1,8 @@
 -- Document 01: S[k], k = 0..1024, is the whole number nearest 16,384 times the sine of k/4096 of a circle. Assumes nothing.
-use Prim.Native.Nat.{ℕ, zero, suc, _+_, _-_, _*_, _/_, _^_}
+use mathlib.Core.Path.{_≡_}
+use mathlib.Core.List.{List}
+use Prim.Native.Nat.{ℕ, zero, suc, _+_, _-_, _*_, _/_, _^_, _≤_}
+use lib.ListN.{getD}
 
 -- numbers below are in units of 2^-128
 abbrev pub unit : ℕ
@@ -22,3 +25,7 @@ scaledSine x = 16384 * x * series 16 2 (x * x / unit)
 -- to the nearest whole number. No entry comes near a half: that is the law margin-rule of proofs/TableLaws.
 unfoldable pub sineOf : ℕ → ℕ
 sineOf k = (scaledSine (k * arc) + unit * unit / 2) / (unit * unit)
+
+-- that a list has S[k] at every k
+abbrev pub Sines : List ℕ → Type 0
+Sines xs = (k : ℕ) → k ≤ 1024 → getD xs k 0 ≡ sineOf k

@@ -4,7 +4,7 @@ ghost use Prim.Native.Nat.{_≤_, _<_, _^_};
 ghost use lib.IntN.{pos, _*ℤ_};
 ghost use Rattle.integers.specs.Bounds.{Within};
 ghost use Rattle.integers.specs.Round.{nearestOf};
-ghost use Rattle.course.specs.Table.{sineOf};
+ghost use Rattle.course.specs.Table.{sineOf, Sines};
 ghost use Rattle.course.specs.Vectors.{Near, plain};
 ghost use Rattle.course.specs.Direction.{turned, directionOf};
 ghost use Rattle.course.specs.Bearing.{edgeNorth, edgeEast, Reached, Bears, bearingOf, signedBearingOf};
@@ -1045,12 +1045,28 @@ const S: [u16; 1025] = [
     16384,
 ];
 
+// The table as a value, to be lent: a constant is copied whole wherever it is named.
+fn table() -> [u16; 1025]
+    ensures { λ r. ⌜ Sines r ⌝ }
+{
+    S
+}
+
 // S[k]. All reading of the table is here.
+fn entry(table: &[u16; 1025], k: usize) -> u16
+    requires { ⌜ (k ≤ 1024) × Sines (now table) ⌝ }
+    ensures { λ r. ⌜ r ≡ sineOf k ⌝ }
+{
+    table[k]
+}
+
+// S[k], for one reading alone.
 pub fn sine(k: usize) -> u16
     requires { ⌜ k ≤ 1024 ⌝ }
     ensures { λ r. ⌜ r ≡ sineOf k ⌝ }
 {
-    S[k]
+    let table = table();
+    entry(&table, k)
 }
 
 // A vector turned clockwise by q quarters.
@@ -1084,8 +1100,9 @@ pub fn direction(k: usize) -> Vector
     ensures { λ r. ⌜ (r ≡ directionOf k) × Near 16384 r ⌝ }
 {
     let j = k % 1024;
-    let north = sine(1024 - j) as i64;
-    let east = sine(j) as i64;
+    let table = table();
+    let north = entry(&table, 1024 - j) as i64;
+    let east = entry(&table, j) as i64;
     turned_by(k / 1024 % 4, north, east)
 }
 
@@ -1109,30 +1126,30 @@ pub fn offset(m: u64, k: usize) -> Vector
 }
 
 // The edge of unit j in the first quarter, j = 1..1024.
-fn edge_north(j: usize) -> u64
-    requires { ⌜ (0 < j) × (j ≤ 1024) ⌝ }
+fn edge_north(table: &[u16; 1025], j: usize) -> u64
+    requires { ⌜ ((0 < j) × (j ≤ 1024)) × Sines (now table) ⌝ }
     ensures { λ r. ⌜ r ≡ edgeNorth j ⌝ }
 {
-    sine(1024 - j) as u64
+    entry(table, 1024 - j) as u64
 }
 
-fn edge_east(j: usize) -> u64
-    requires { ⌜ (0 < j) × (j ≤ 1024) ⌝ }
+fn edge_east(table: &[u16; 1025], j: usize) -> u64
+    requires { ⌜ ((0 < j) × (j ≤ 1024)) × Sines (now table) ⌝ }
     ensures { λ r. ⌜ r ≡ edgeEast j ⌝ }
 {
-    sine(j) as u64
+    entry(table, j) as u64
 }
 
 // How many of the first quarter's edges (a, b) has reached, by halving the range.
-fn edges_reached(a: u64, b: u64) -> usize
-    requires { ⌜ (a < 2 ^ 48) × (b < 2 ^ 48) ⌝ }
+fn edges_reached(table: &[u16; 1025], a: u64, b: u64) -> usize
+    requires { ⌜ ((a < 2 ^ 48) × (b < 2 ^ 48)) × Sines (now table) ⌝ }
     ensures { λ r. ⌜ Reached a b r ⌝ }
 {
     let mut low: usize = 0;
     let mut high: usize = 1025;
     while low + 1 < high {
         let middle = (low + high) / 2;
-        if edge_east(middle) * a <= edge_north(middle) * b {
+        if edge_east(table, middle) * a <= edge_north(table, middle) * b {
             low = middle;
         } else {
             high = middle;
@@ -1146,7 +1163,8 @@ fn bearing_in(q: usize, a: u64, b: u64) -> usize
     requires { ⌜ (q < 4) × ((0 < a) × ((a < 2 ^ 48) × (b < 2 ^ 48))) ⌝ }
     ensures { λ r. ⌜ r ≡ bearingOf (turned q (plain a b)) ⌝ }
 {
-    (1024 * q + edges_reached(a, b)) % 4096
+    let table = table();
+    (1024 * q + edges_reached(&table, a, b)) % 4096
 }
 
 // The bearing of v, 0 to 4095; 0 at (0, 0).

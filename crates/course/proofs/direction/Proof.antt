@@ -14,17 +14,20 @@ use Rattle.course.proofs.DirectionLaws.{turned-round, direction-here}
 use Rattle.course.proofs.direction.Statement.{statement}
 use Rattle.course.proofs.direction.Tie as tie
 
-sub-sine : tie.Need-sub-sine
-sub-sine c = search needs
+table-requires : tie.Need-table-requires
+table-requires c κs = search needs
 
-sine-requires : tie.Need-sine-requires
-sine-requires c κs = search needs
+sub-entry : tie.Need-sub-entry
+sub-entry c = search needs
+
+entry-requires : tie.Need-entry-requires
+entry-requires c κs = search needs
 
 cast-north : tie.Need-cast-north
 cast-north c = search needs
 
-sine-requires-2 : tie.Need-sine-requires-2
-sine-requires-2 c κs = search needs
+entry-requires-2 : tie.Need-entry-requires-2
+entry-requires-2 c κs = search needs
 
 cast-east : tie.Need-cast-east
 cast-east c = search needs
@@ -36,14 +39,14 @@ record Parts (k a b : ℕ) : Type 0 where
   north-most : a ≤ 16384
   east-most : b ≤ 16384
 
-parts : (c : tie.After-sine2) → Parts (c .before .before .args .k) (c .before .sine .result) (c .sine2 .result)
+parts : (c : tie.After-entry2) → Parts (c .before .before .before .before .before .args .k) (c .before .before .entry .result) (c .entry2 .result)
 parts c =
-    let k = c .before .before .args .k in
+    let k = c .before .before .before .before .before .args .k in
     record {
-      north = c .before .sine .ensures;
-      east = c .sine2 .ensures;
-      north-most = omega (arith, c .before .sine .ensures, sine-most (1024 - k % 1024) (omega arith));
-      east-most = omega (arith, c .sine2 .ensures, sine-most (k % 1024) (omega arith));
+      north = c .before .before .entry .ensures;
+      east = c .entry2 .ensures;
+      north-most = omega (arith, c .before .before .entry .ensures, sine-most (1024 - k % 1024) (omega arith));
+      east-most = omega (arith, c .entry2 .ensures, sine-most (k % 1024) (omega arith));
     }
 
 -- and the quarters are counted from 0 to 3
@@ -63,7 +66,7 @@ returns c =
     let p = parts (c .before) in
     let a = p .north-most in
     let b = p .east-most in
-    let k = c .before .before .before .args .k in (
+    let k = c .before .before .before .before .before .before .args .k in (
       c .turned-by .ensures .0 ∙ ap (turned (k / 1024 % 4)) (vector (is (search value depth 20 fits 5000)) (is (search value depth 20 fits 5000))) ∙ whole p,
       c .turned-by .ensures .1,
     )
@@ -71,4 +74,4 @@ returns c =
 pub direction-spec : {M : Type 1} → statement M
 direction-spec =
     tie.close
-    (tie.spec sub-sine sine-requires cast-north sine-requires-2 cast-east turned-by-requires returns)
+    (tie.spec table-requires sub-entry entry-requires cast-north entry-requires-2 cast-east turned-by-requires returns)

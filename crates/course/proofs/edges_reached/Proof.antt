@@ -15,10 +15,10 @@ record Inv (a b low high : ℕ) : Type 0 where
   upto : high ≤ 1024 → edgeNorth high * b < edgeEast high * a
 
 abbrev Inv-loop : tie.InvT-loop
-Inv-loop a b low₀ high₀ low high = Inv a b low high
+Inv-loop table a b low₀ high₀ low high = Inv a b low high
 
 abbrev μ-loop : tie.MeasureT-loop
-μ-loop a b low₀ high₀ low high = high - low
+μ-loop table a b low₀ high₀ low high = high - low
 
 -- the test, of the values that the calls ensure
 carry : {x y e n : ℕ} (a b : ℕ) → x ≡ e → y ≡ n → x * a ≤ y * b → e * a ≤ n * b
@@ -37,7 +37,7 @@ add-middle : tie.Need-add-middle Inv-loop μ-loop
 add-middle c = omega arith
 
 edge-east-requires : tie.Need-edge-east-requires Inv-loop μ-loop
-edge-east-requires c κs = omega arith
+edge-east-requires c κs = ((omega arith, omega arith), c .before .before .pre .1)
 
 mul-if1 : tie.Need-mul-if1 Inv-loop μ-loop
 mul-if1 c =
@@ -45,7 +45,7 @@ mul-if1 c =
     omega (arith, mul-le-mul-right {m = c .edge-east .result} {n = 32768} (c .before .before .before .args .a) (omega (arith, east-most ((l .low + l .high) / 2) (omega arith) (omega arith))))
 
 edge-north-requires : tie.Need-edge-north-requires Inv-loop μ-loop
-edge-north-requires c κs = omega arith
+edge-north-requires c κs = ((omega arith, omega arith), c .before .before .before .pre .1)
 
 mul-if1-2 : tie.Need-mul-if1-2 Inv-loop μ-loop
 mul-if1-2 c =
