@@ -1,3 +1,2 @@
-pub mod StarredLaws
 pub mod NumberLaws
 pub mod PlanLaws

@@ -18,7 +18,7 @@ use Rattle.fillets.specs.Corners.{lesserTurn, turnBetween, turnOf, tangentOf, r
 use Rattle.dubins.specs.Cases.{startsRight, endsRight, sameSide, centreOf, circlesOf, tangentExists, straightOf, innerTangent, courseOf, turnOf as turnTo, lengthOf as pathLength, touchOf, pathOf}
 use Rattle.dubins.specs.Choice.{casePath, shorterOf, shortestOf}
 use Rattle.heading.specs.Heading.{lineAngle, lineHeading}
-use Rattle.examples.specs.Starred.{All, starred}
+use Rattle.starred.specs.Starred.{All, starred}
 
 pub each : All starred
 unfolding choose nextRoot rootBy rootOf nearestOf wrapOf series scaledSine sineOf cross quarter turned directionOf edgeNorth edgeEast reaches climb bearingIn bearingBy bearingOf signedOf offsetOf legOf levelOf plus minus levelLegOf dotOf squareOf lengthOf sidewaysOf arcOf dot3Of square3Of halfPlane metOf decimetresOf ofBits lesserTurn turnBetween turnOf tangentOf rightOf roundedOf cornerOf startsRight endsRight sameSide centreOf circlesOf tangentExists straightOf innerTangent courseOf turnTo pathLength touchOf pathOf casePath shorterOf shortestOf lineAngle lineHeading
