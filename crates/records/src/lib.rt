@@ -1,0 +1,513 @@
+// The records of a plan file: kinds, their rules, and what a walk over them gathers (document 01, "The plan file").
+use plan::COURSES;
+use plan::LEAST_RADIUS;
+use plan::MOST_RADIUS;
+use plan::POINTS;
+use plane::Point;
+ghost use mathlib.Core.Path.{_≡_};
+ghost use Prim.Native.Nat.{_<_};
+ghost use lib.ListN.{length, getD};
+ghost use mir.Syntax.{w32};
+ghost use mir.Val.{toZ};
+ghost use Rattle.records.specs.Numbers.{u16At, u32At, i32At};
+ghost use Rattle.records.specs.Gather.{headerLength, gatherFrom};
+ghost use Rattle.records.specs.Held.{beforeOf, verdictOf, heldOf, nextOf, stepOf, answerOf, gatheredOf};
+ghost use Rattle.records.specs.Kinds.{rowOf, knows, between, Parts, noParts, withPoint, withRadius, withCourse, pointOf, pointRule, radiusRule, courseRule, optionalRule, valueRule, knownRule, unknownRule, judge};
+
+// The bytes before the first record.
+pub const HEADER: usize = 11;
+
+// The bytes before a record's body: its kind and its length.
+const HEAD: usize = 2;
+
+// Where the numbers of a point stand in its body.
+const NORTH: usize = 0;
+
+const EAST: usize = 4;
+
+const DOWN: usize = 8;
+
+// How many values one byte has, and two.
+const ONE_BYTE: u16 = 256;
+
+const TWO_BYTES: u32 = 65536;
+
+// From this u32 up an i32 is negative.
+const SIGN_BIT: u32 = 2147483648;
+
+// The bits of -1.
+const MINUS_ONE: u32 = 4294967295;
+
+// The refusals of a record (document 01, "Refusal numbers and their order").
+const WRONG: u8 = 6;
+
+const TOO_NEW: u8 = 7;
+
+// The kinds.
+pub const POINT_KIND: u8 = 1;
+
+pub const RADIUS_KIND: u8 = 2;
+
+pub const COURSE_KIND: u8 = 3;
+
+pub const NOTE_KIND: u8 = 128;
+
+pub const SPEED_KIND: u8 = 129;
+
+// The least kind that is optional to a reader that lacks it.
+const OPTIONAL: u8 = 128;
+
+// The values of a speed.
+const LEAST_SPEED: usize = 1;
+
+const MOST_SPEED: usize = 1000;
+
+// A row of the table: a kind, the first version that has it, the least and the greatest length of its body.
+struct Kind {
+    kind: u8,
+    since: u16,
+    low: usize,
+    high: usize,
+}
+
+const KINDS: usize = 5;
+
+// Document 01's table. Reader versions consult it, and nothing else says which kinds there are.
+const TABLE: [Kind; KINDS] = [
+    Kind {
+        kind: POINT_KIND,
+        since: 1,
+        low: 12,
+        high: 12,
+    },
+    Kind {
+        kind: RADIUS_KIND,
+        since: 2,
+        low: 2,
+        high: 2,
+    },
+    Kind {
+        kind: COURSE_KIND,
+        since: 3,
+        low: 2,
+        high: 2,
+    },
+    Kind {
+        kind: NOTE_KIND,
+        since: 2,
+        low: 1,
+        high: 32,
+    },
+    Kind {
+        kind: SPEED_KIND,
+        since: 3,
+        low: 2,
+        high: 2,
+    },
+];
+
+// What a record does to what was gathered before it.
+enum Effect {
+    Nothing,
+    AddPoint(Point),
+    SetRadius(u16),
+    AddCourse(u16),
+    Wrong,
+    TooNew,
+}
+
+// What the rules ask of the records before: the radius, 0 for none; the points, counted up to one more than a plan holds; whether the last
+// record, optional ones left out, is a point.
+struct Before {
+    radius: u16,
+    count: usize,
+    follows: bool,
+}
+
+// What the records so far give. Points and courses past a plan's places are counted, up to one, and not stored.
+struct Held {
+    radius: u16,
+    count: usize,
+    given: usize,
+    follows: bool,
+    points: [Point; POINTS],
+    courses: [u16; POINTS],
+}
+
+// A refusal at an offset, or 0 and the offset to go on at.
+struct Next {
+    refusal: u8,
+    at: usize,
+    held: Held,
+}
+
+// What a file's records give, or a refusal with its place and nothing else.
+pub struct Gathered {
+    pub refusal: u8,
+    pub place: usize,
+    pub radius: u16,
+    pub count: usize,
+    pub given: usize,
+    pub points: [Point; POINTS],
+    pub courses: [u16; POINTS],
+}
+
+// The row of a kind, or one since version 0, which no reader has.
+fn row_of(kind: u8) -> Kind
+    ensures { λ r. ⌜ r ≡ rowOf kind ⌝ }
+{
+    let mut i: usize = 0;
+    while i < KINDS {
+        let row = TABLE[i];
+        if kind == row.kind {
+            return row;
+        }
+        i += 1;
+    }
+    Kind {
+        kind,
+        since: 0,
+        low: 0,
+        high: 0,
+    }
+}
+
+// Whether a reader of a version knows a kind.
+fn knows(reader: u32, kind: u8) -> bool
+    ensures { λ r. ⌜ r ≡ knows reader kind ⌝ }
+{
+    let row = row_of(kind);
+    if row.since == 0 {
+        return false;
+    }
+    (row.since as u32) <= reader
+}
+
+// The byte at i, 0 past the end.
+fn byte_at(s: &[u8], i: usize) -> u8
+    ensures { λ r. ⌜ r ≡ getD (now (s .entry)) i 0 ⌝ }
+{
+    if i < s.len() {
+        return s[i];
+    }
+    0
+}
+
+// Two bytes from i on as a number, big-endian.
+pub fn u16_at(s: &[u8], i: usize) -> u16
+    ensures { λ r. ⌜ r ≡ u16At (now (s .entry)) i ⌝ }
+{
+    if s.len() <= i {
+        return 0;
+    }
+    (byte_at(s, i) as u16) * ONE_BYTE + (byte_at(s, i + 1) as u16)
+}
+
+// Four bytes from i on as a number, big-endian.
+pub fn u32_at(s: &[u8], i: usize) -> u32
+    ensures { λ r. ⌜ r ≡ u32At (now (s .entry)) i ⌝ }
+{
+    if s.len() <= i {
+        return 0;
+    }
+    (u16_at(s, i) as u32) * TWO_BYTES + (u16_at(s, i + 2) as u32)
+}
+
+// Two's complement.
+fn signed(u: u32) -> i32
+    ensures { λ r. ⌜ r ≡ toZ w32 u ⌝ }
+{
+    if u < SIGN_BIT {
+        return u as i32;
+    }
+    -1 - ((MINUS_ONE - u) as i32)
+}
+
+// Four bytes from i on as a signed number.
+fn i32_at(s: &[u8], i: usize) -> i32
+    ensures { λ r. ⌜ r ≡ i32At (now (s .entry)) i ⌝ }
+{
+    signed(u32_at(s, i))
+}
+
+// Whether low <= x <= high.
+fn between(low: usize, high: usize, x: usize) -> bool
+    ensures { λ r. ⌜ r ≡ between low high x ⌝ }
+{
+    if low <= x {
+        return x <= high;
+    }
+    false
+}
+
+// The point of a body.
+fn point_of(body: &[u8]) -> Point
+    ensures { λ r. ⌜ r ≡ pointOf (now (body .entry)) ⌝ }
+{
+    let north = i32_at(body, NORTH);
+    let east = i32_at(body, EAST);
+    let down = i32_at(body, DOWN);
+    Point { north, east, down }
+}
+
+// A radius: at most once, before the first point.
+fn radius_rule(body: &[u8], before: Before) -> Effect
+    ensures { λ x. ⌜ ((a : Parts) → before ≡ beforeOf a → verdictOf a x ≡ radiusRule (now (body .entry)) a) ⌝ }
+{
+    let radius = u16_at(body, 0);
+    if between(LEAST_RADIUS as usize, MOST_RADIUS as usize, radius as usize) {
+        if before.radius == 0 {
+            if before.count == 0 {
+                return Effect::SetRadius(radius);
+            }
+        }
+    }
+    Effect::Wrong
+}
+
+// A course: after a point.
+fn course_rule(body: &[u8], before: Before) -> Effect
+    ensures { λ x. ⌜ ((a : Parts) → before ≡ beforeOf a → verdictOf a x ≡ courseRule (now (body .entry)) a) ⌝ }
+{
+    let course = u16_at(body, 0);
+    if course < COURSES {
+        if before.follows {
+            return Effect::AddCourse(course);
+        }
+    }
+    Effect::Wrong
+}
+
+// Notes and speeds don't enter the plan.
+fn optional_rule(kind: u8, body: &[u8]) -> Effect
+    ensures { λ x. ⌜ ((a : Parts) → verdictOf a x ≡ optionalRule kind (now (body .entry)) a) ⌝ }
+{
+    if kind == SPEED_KIND {
+        if !between(LEAST_SPEED, MOST_SPEED, u16_at(body, 0) as usize) {
+            return Effect::Wrong;
+        }
+    }
+    Effect::Nothing
+}
+
+// A point, in the area.
+fn point_rule(body: &[u8]) -> Effect
+    ensures { λ x. ⌜ ((a : Parts) → verdictOf a x ≡ pointRule (now (body .entry)) a) ⌝ }
+{
+    let point = point_of(body);
+    if plan::in_area(point) {
+        return Effect::AddPoint(point);
+    }
+    Effect::Wrong
+}
+
+// The rule of a kind on value and position.
+fn value_rule(kind: u8, body: &[u8], before: Before) -> Effect
+    ensures { λ x. ⌜ ((a : Parts) → before ≡ beforeOf a → verdictOf a x ≡ valueRule kind (now (body .entry)) a) ⌝ }
+{
+    if OPTIONAL <= kind {
+        return optional_rule(kind, body);
+    }
+    if kind == POINT_KIND {
+        return point_rule(body);
+    }
+    if kind == RADIUS_KIND {
+        return radius_rule(body, before);
+    }
+    course_rule(body, before)
+}
+
+// A kind that the reader knows. The reader's version does not enter.
+fn known_rule(version: u16, kind: u8, body: &[u8], before: Before) -> Effect
+    ensures { λ x. ⌜ ((a : Parts) → before ≡ beforeOf a → verdictOf a x ≡ knownRule version kind (now (body .entry)) a) ⌝ }
+{
+    let row = row_of(kind);
+    if row.since <= version {
+        if between(row.low, row.high, body.len()) {
+            return value_rule(kind, body, before);
+        }
+    }
+    Effect::Wrong
+}
+
+// A kind that the reader lacks: wrong in a file that is no newer than the reader.
+fn unknown_rule(reader: u32, version: u16, kind: u8) -> Effect
+    ensures { λ x. ⌜ ((a : Parts) → verdictOf a x ≡ unknownRule reader version kind a) ⌝ }
+{
+    if (version as u32) <= reader {
+        return Effect::Wrong;
+    }
+    if OPTIONAL <= kind {
+        return Effect::Nothing;
+    }
+    Effect::TooNew
+}
+
+// What a whole record does.
+fn effect_of(reader: u32, version: u16, kind: u8, body: &[u8], before: Before) -> Effect
+    ensures { λ x. ⌜ ((a : Parts) → before ≡ beforeOf a → verdictOf a x ≡ judge reader version kind (now (body .entry)) a) ⌝ }
+{
+    if knows(reader, kind) {
+        return known_rule(version, kind, body, before);
+    }
+    unknown_rule(reader, version, kind)
+}
+
+// Before the first record.
+fn nothing_held() -> Held
+    ensures { λ r. ⌜ r ≡ heldOf noParts ⌝ }
+{
+    let none = Point {
+        north: 0,
+        east: 0,
+        down: 0,
+    };
+    Held {
+        radius: 0,
+        count: 0,
+        given: 0,
+        follows: false,
+        points: [none; POINTS],
+        courses: [0u16; POINTS],
+    }
+}
+
+// One point more: stored where there is a place for it, and counted.
+fn with_point(held: Held, point: Point) -> Held
+    ensures { λ r. ⌜ ((a : Parts) → held ≡ heldOf a → r ≡ heldOf (withPoint a point)) ⌝ }
+{
+    let count = held.count;
+    let mut next = held;
+    next.follows = true;
+    if count < POINTS {
+        next.points[count] = point;
+        next.count = count + 1;
+        return next;
+    }
+    next.count = POINTS + 1;
+    next
+}
+
+// A radius, after which no course may follow.
+fn with_radius(held: Held, radius: u16) -> Held
+    ensures { λ r. ⌜ ((a : Parts) → held ≡ heldOf a → r ≡ heldOf (withRadius a radius)) ⌝ }
+{
+    let mut next = held;
+    next.radius = radius;
+    next.follows = false;
+    next
+}
+
+// One course more: stored where there is a place for it, and counted.
+fn with_course(held: Held, course: u16) -> Held
+    ensures { λ r. ⌜ ((a : Parts) → held ≡ heldOf a → r ≡ heldOf (withCourse a course)) ⌝ }
+{
+    let given = held.given;
+    let mut next = held;
+    next.follows = false;
+    if given < POINTS {
+        next.courses[given] = course;
+        next.given = given + 1;
+        return next;
+    }
+    next.given = POINTS + 1;
+    next
+}
+
+// After the record from one offset to another: what is held then, or a refusal at the first.
+fn taken(held: Held, effect: Effect, at: usize, to: usize) -> Next
+    ensures { λ x. ⌜ ((a : Parts) → held ≡ heldOf a → x ≡ nextOf held at to (verdictOf a effect)) ⌝ }
+{
+    match effect {
+        Effect::Nothing => Next {
+            refusal: 0,
+            at: to,
+            held,
+        },
+        Effect::AddPoint(point) => Next {
+            refusal: 0,
+            at: to,
+            held: with_point(held, point),
+        },
+        Effect::SetRadius(radius) => Next {
+            refusal: 0,
+            at: to,
+            held: with_radius(held, radius),
+        },
+        Effect::AddCourse(course) => Next {
+            refusal: 0,
+            at: to,
+            held: with_course(held, course),
+        },
+        Effect::Wrong => Next {
+            refusal: WRONG,
+            at,
+            held,
+        },
+        Effect::TooNew => Next {
+            refusal: TOO_NEW,
+            at,
+            held,
+        },
+    }
+}
+
+// One record, at an offset below the end.
+fn step(file: &[u8], reader: u32, version: u16, at: usize, held: Held) -> Next
+    requires { ⌜ at < length (now file) ⌝ }
+    ensures { λ x. ⌜ ((a : Parts) → held ≡ heldOf a → x ≡ stepOf reader version (now (file .entry)) at held a) ⌝ }
+{
+    let from = at + HEAD;
+    if file.len() < from {
+        return taken(held, Effect::Wrong, at, at);
+    }
+    let size = file[at + 1] as usize;
+    if file.len() - from < size {
+        return taken(held, Effect::Wrong, at, at);
+    }
+    let to = from + size;
+    let before = Before {
+        radius: held.radius,
+        count: held.count,
+        follows: held.follows,
+    };
+    let effect = effect_of(reader, version, file[at], &file[from..to], before);
+    taken(held, effect, at, to)
+}
+
+// What is held, as the answer.
+fn answer(refusal: u8, place: usize, held: Held) -> Gathered
+    ensures { λ r. ⌜ r ≡ answerOf refusal place held ⌝ }
+{
+    let points = held.points;
+    let courses = held.courses;
+    Gathered {
+        refusal,
+        place,
+        radius: held.radius,
+        count: held.count,
+        given: held.given,
+        points,
+        courses,
+    }
+}
+
+// What a file's records give to a reader, or the first refusal of one.
+pub fn gather(file: &[u8], reader: u32, version: u16) -> Gathered
+    ensures { λ r. ⌜ r ≡ gatheredOf (gatherFrom reader version (now (file .entry)) headerLength noParts) ⌝ }
+{
+    let mut at: usize = HEADER;
+    let mut held = nothing_held();
+    while at < file.len() {
+        let next = step(file, reader, version, at, held);
+        let refusal = next.refusal;
+        let to = next.at;
+        if refusal != 0 {
+            return answer(refusal, to, nothing_held());
+        }
+        let more = next.held;
+        held = more;
+        at = to;
+    }
+    answer(0, 0, held)
+}
