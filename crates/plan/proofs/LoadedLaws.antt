@@ -42,7 +42,7 @@ pub given-mode : (R given n : ℕ) → coursesFit R given n ≡ true → givenOf
 unfolding coursesFit modeOf
 given-mode R given n h = given-by given n (eqb R 0) (eqb given 0) refl h
 
-given-le : (mode : Mode) (n : ℕ) → givenOf mode n ≤ n
+pub given-le : (mode : Mode) (n : ℕ) → givenOf mode n ≤ n
 unfolding givenOf
 given-le Lines n = omega arith
 given-le Fillets n = omega arith

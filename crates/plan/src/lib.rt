@@ -97,7 +97,7 @@ pub fn mode_of(radius: u16, given: usize) -> Mode
 }
 
 // How many points of a plan have a course.
-fn given_of(mode: Mode, count: usize) -> usize
+pub fn given_of(mode: Mode, count: usize) -> usize
     ensures { λ r. ⌜ r ≡ givenOf mode count ⌝ }
 {
     match mode {

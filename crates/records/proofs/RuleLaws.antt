@@ -9,7 +9,6 @@ use lib.ListN.{length}
 use borrow.Author.Tests.{le-leb, lt-leb, lt-ltb, le-ltb, eq-eqb, ne-eqb}
 use Rattle.integers.specs.Choose.{choose}
 use Rattle.integers.proofs.ChooseLaws.{choose-true, choose-false}
-use Rattle.order.specs.Outcome.{Outcome, good, refused}
 use Rattle.order.specs.Sweep.{both}
 use Rattle.plane.specs.declared.Point.{Point}
 use Rattle.plan.specs.Limits.{leastRadius, mostRadius, courses, inAreaOf}
@@ -20,15 +19,12 @@ use Rattle.records.specs.Numbers.{u16At}
 use Rattle.records.specs.Kinds.{rowOf, optional, knows, between, judge, Parts, takes, wrong, tooNew, pointOf, pointRule, radiusRule, courseRule, optionalRule, valueRule, knownRule, unknownRule}
 use Rattle.records.specs.Held.{counted, beforeOf, verdictOf}
 
--- ---- no two verdicts are one, and no refusal is a value
+-- ---- no two verdicts are one
 pub not-wrong : {X : Type 0} (a : Parts) → wrong ≡ takes a → X
 not-wrong a h = let z : _≡_ {A = ℕ} 0 1 = cc in absurd (omega arith)
 
 pub not-new : {X : Type 0} (a : Parts) → tooNew ≡ takes a → X
 not-new a h = let z : _≡_ {A = ℕ} 0 1 = cc in absurd (omega arith)
-
-pub not-refused : {X : Type 0} (n p : ℕ) (a : Parts) → _≡_ {A = Outcome Parts} (refused n p) (good a) → X
-not-refused n p a h = let z : _≡_ {A = ℕ} 0 1 = cc in absurd (omega arith)
 
 -- ---- a point
 module _ (b : List ℕ) (a : Parts) (p : Point) (read : p ≡ pointOf b) where

@@ -18,10 +18,45 @@ use Rattle.records.specs.declared.Held.{Held}
 use Rattle.records.specs.declared.Next.{Next}
 use Rattle.records.specs.declared.Gathered.{Gathered}
 use Rattle.records.specs.Kinds.{Parts, noParts, Verdict, takes, wrong, tooNew, judge}
-use Rattle.records.specs.Gather.{after, gather, gatherFrom, headerLength, endAt, bodyAt, verdictAt}
+use Rattle.records.specs.Gather.{after, gather, gatherFrom, headerLength, endAt, bodyAt, wholeEnd, verdictAt}
 use Rattle.records.specs.Held.{beforeOf, heldOf, verdictOf, nextOf, stepOf, answerOf, gatheredOf}
 use Rattle.records.proofs.RuleLaws.{not-wrong}
 use Rattle.records.proofs.WalkLaws.{walk-at-end, walk-at-cut, walk-at-more}
+
+-- ---- where a record ends
+module _ (file : List ℕ) (at : ℕ) where
+  pub head-cut : length file < at + 2 → wholeEnd file at ≡ 0
+  unfolding wholeEnd endAt
+  head-cut h = choose-false _ _ _ (lt-leb (endAt file at) (length file) (omega arith))
+
+  pub body-cut : at + 2 ≤ length file → length file - (at + 2) < getD file (at + 1) 0 → wholeEnd file at ≡ 0
+  unfolding wholeEnd endAt
+  body-cut m h = choose-false _ _ _ (lt-leb (endAt file at) (length file) (omega arith))
+
+  pub not-cut : at + 2 + getD file (at + 1) 0 ≤ length file → wholeEnd file at ≡ at + 2 + getD file (at + 1) 0
+  unfolding wholeEnd endAt
+  not-cut h = choose-true _ _ _ (le-leb _ _ h)
+
+  pub cut-past : wholeEnd file at ≡ 0 → length file < endAt file at
+  unfolding wholeEnd endAt
+  cut-past e =
+      by-bool (leb (endAt file at) (length file))
+      (λ t. let z : endAt file at ≡ 0 = sym (choose-true _ _ _ t) ∙ e in absurd (omega arith))
+      (λ t. leb-false _ _ t)
+
+  -- a record that is not cut short ends inside the file
+  pub record Whole (to : ℕ) : Type 0 where
+    pub ends : to ≡ endAt file at
+    pub inside : to ≤ length file
+    pub further : at + 2 ≤ to
+
+  pub whole : (to : ℕ) → to ≡ wholeEnd file at → (to ≡ 0 → ⊥) → Whole to
+  unfolding wholeEnd endAt
+  whole to e n =
+      by-bool (leb (endAt file at) (length file))
+      (λ t. let k : to ≡ endAt file at = e ∙ choose-true _ _ _ t in
+      record { ends = k; inside = rw k (leb-true _ _ t); further = rw k (omega arith) })
+      (λ t. absurd (n (e ∙ choose-false _ _ _ t)))
 
 -- ---- the record at an offset
 module _ (r v : ℕ) (file : List ℕ) (at : ℕ) (a : Parts) where
@@ -68,25 +103,18 @@ module _ (r v : ℕ) (file : List ℕ) (at : ℕ) (a : Parts) (h : Held) (x : Ne
   abbrev Steps : Type 0
   Steps = x ≡ stepOf r v file at h a
 
-  step-cut : length file < endAt file at → x ≡ nextOf h at at (verdictOf a Wrong) → Steps
+  pub step-cut : length file < endAt file at → x ≡ nextOf h at at (verdictOf a Wrong) → Steps
   unfolding nextOf verdictOf
   step-cut l k = k ∙ rw (verdict-cut r v file at a l)
 
-  pub step-head : length file < at + 2 → x ≡ nextOf h at at (verdictOf a Wrong) → Steps
-  unfolding endAt
-  step-head l k = step-cut (omega arith) k
-
-  pub step-body : at + 2 ≤ length file → length file - (at + 2) < getD file (at + 1) 0 → x ≡ nextOf h at at (verdictOf a Wrong) → Steps
-  unfolding endAt
-  step-body m l k = step-cut (omega arith) k
-
-  pub step-whole : (n : ℕ) (e : Effect) → n ≡ getD file (at + 1) 0 → at + 2 + n ≤ length file
-      → verdictOf a e ≡ judge r v (getD file at 0) (take (at + 2 + n - (at + 2)) (drop (at + 2) file)) a
-      → x ≡ nextOf h at (at + 2 + n) (verdictOf a e) → Steps
+  pub step-whole : (to : ℕ) (e : Effect) → Whole file at to
+      → verdictOf a e ≡ judge r v (getD file at 0) (take (to - (at + 2)) (drop (at + 2) file)) a
+      → x ≡ nextOf h at to (verdictOf a e) → Steps
   unfolding endAt bodyAt
-  step-whole n e en l j k =
-      let p : take (at + 2 + n - (at + 2)) (drop (at + 2) file) ≡ take n (drop (at + 2) file) = rw (add-sub-cancel-left (at + 2) n) in
-      k ∙ rw (j, p, en) (ap (nextOf h at (at + 2 + getD file (at + 1) 0)) (sym (verdict-whole r v file at a (rw en at l))))
+  step-whole to e w j k =
+      let p : take (to - (at + 2)) (drop (at + 2) file) ≡ bodyAt file at =
+      ap (λ (n : ℕ). take (n - (at + 2)) (drop (at + 2) file)) (w .ends) ∙ rw (add-sub-cancel-left (at + 2) (getD file (at + 1) 0)) in
+      k ∙ rw (j, p, w .ends) (ap (nextOf h at (endAt file at)) (sym (verdict-whole r v file at a (rw (w .ends) at (w .inside)))))
 
 -- ---- the loop
 ends-after : (file : List ℕ) (at : ℕ) → at < endAt file at

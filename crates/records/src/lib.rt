@@ -10,15 +10,25 @@ ghost use lib.ListN.{length, getD};
 ghost use mir.Syntax.{w32};
 ghost use mir.Val.{toZ};
 ghost use Rattle.records.specs.Numbers.{u16At, u32At, i32At};
-ghost use Rattle.records.specs.Gather.{headerLength, gatherFrom};
+ghost use Rattle.records.specs.Gather.{headerLength, gatherFrom, wholeEnd};
 ghost use Rattle.records.specs.Held.{beforeOf, verdictOf, heldOf, nextOf, stepOf, answerOf, gatheredOf};
 ghost use Rattle.records.specs.Kinds.{rowOf, knows, between, Parts, noParts, withPoint, withRadius, withCourse, pointOf, pointRule, radiusRule, courseRule, optionalRule, valueRule, knownRule, unknownRule, judge};
+
+// The first three bytes of a file, "WPL".
+pub const MARK: [u8; 3] = [0x57, 0x50, 0x4C];
+
+// Where the numbers of the header stand.
+pub const VERSION: usize = 3;
+
+pub const SERIAL: usize = 5;
+
+pub const AREA: usize = 9;
 
 // The bytes before the first record.
 pub const HEADER: usize = 11;
 
 // The bytes before a record's body: its kind and its length.
-const HEAD: usize = 2;
+pub const HEAD: usize = 2;
 
 // Where the numbers of a point stand in its body.
 const NORTH: usize = 0;
@@ -452,25 +462,39 @@ fn taken(held: Held, effect: Effect, at: usize, to: usize) -> Next
     }
 }
 
+// Where the record at an offset ends, or 0 where it is cut short.
+pub fn end_at(file: &[u8], at: usize) -> usize
+    ensures { λ r. ⌜ r ≡ wholeEnd (now (file .entry)) at ⌝ }
+{
+    if file.len() <= at {
+        return 0;
+    }
+    let from = at + HEAD;
+    if file.len() < from {
+        return 0;
+    }
+    let size = file[at + 1] as usize;
+    if file.len() - from < size {
+        return 0;
+    }
+    from + size
+}
+
 // One record, at an offset below the end.
 fn step(file: &[u8], reader: u32, version: u16, at: usize, held: Held) -> Next
     requires { ⌜ at < length (now file) ⌝ }
     ensures { λ x. ⌜ ((a : Parts) → held ≡ heldOf a → x ≡ stepOf reader version (now (file .entry)) at held a) ⌝ }
 {
-    let from = at + HEAD;
-    if file.len() < from {
+    let to = end_at(file, at);
+    if to == 0 {
         return taken(held, Effect::Wrong, at, at);
     }
-    let size = file[at + 1] as usize;
-    if file.len() - from < size {
-        return taken(held, Effect::Wrong, at, at);
-    }
-    let to = from + size;
     let before = Before {
         radius: held.radius,
         count: held.count,
         follows: held.follows,
     };
+    let from = at + HEAD;
     let effect = effect_of(reader, version, file[at], &file[from..to], before);
     taken(held, effect, at, to)
 }

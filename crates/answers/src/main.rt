@@ -1,0 +1,127 @@
+// Answers the questions on standard input, a line for each. A question is: its letter, a number u32, a room u16, a size u16, and a plan file of
+// that size; numbers are big-endian.
+//   L  the file's load by the reader of that number: its refusal and place
+//   N  the note of that number: its bytes
+//   W  the file, loaded by the newest reader and written at the version of that number into so much room: refusal, place, length, and the
+//      room's bytes afterwards, which were AA before
+use console::write;
+use console::write_decimal;
+use libc::STDIN_FILENO;
+use libc::STDOUT_FILENO;
+ghost use mathlib.Core.Path.{_≡_};
+ghost use Prim.Native.Nat.{_≤_};
+ghost use lib.ListN.{length};
+
+const LOAD: u8 = 0x4C;
+
+const NOTE: u8 = 0x4E;
+
+const WRITE: u8 = 0x57;
+
+// Where a question's numbers stand, and the file after them.
+const NUMBER: usize = 1;
+
+const ROOM: usize = 5;
+
+const SIZE: usize = 7;
+
+const HEAD: usize = 9;
+
+// The most room that is written into.
+const MOST_ROOM: usize = 8192;
+
+// What stands in the room before.
+const BLANK: u8 = 0xAA;
+
+fn write_byte(byte: u8) {
+    io::print_hex(STDOUT_FILENO, byte as u64, 2);
+}
+
+// The bytes in hexadecimal.
+fn write_bytes(bytes: &[u8]) {
+    write(b" ");
+    let mut i: usize = 0;
+    while i < bytes.len() {
+        write_byte(bytes[i]);
+        i += 1;
+    }
+    write(b"\n");
+}
+
+fn show_load(file: &[u8], reader: u32) {
+    let loaded = wpl::load(file, reader);
+    write(b"load ");
+    console::write_refusal(loaded.refusal, loaded.place);
+    write(b"\n");
+}
+
+fn show_note(file: &[u8], number: u32) {
+    write(b"note");
+    write_bytes(wpl::note(file, number as usize));
+}
+
+// The `ensures` gives the length, which lending the array asks.
+fn blank() -> [u8; MOST_ROOM]
+    ensures { λ r. ⌜ 8192 ≡ length r ⌝ }
+{
+    [BLANK; MOST_ROOM]
+}
+
+fn show_write(file: &[u8], version: u32, room: usize) {
+    let loaded = wpl::load(file, wpl::NEWEST);
+    let state = loaded.state;
+    let mut space = blank();
+    if room <= MOST_ROOM {
+        let whole: &mut [u8] = &mut space;
+        let buffer = &mut whole[..room];
+        let written = wpl::write(state, version, buffer);
+        write(b"write ");
+        console::write_refusal(written.refusal, written.place);
+        write(b" length ");
+        write_decimal(written.length as u64);
+        write_bytes(buffer);
+    } else {
+        write(b"room over 8192\n");
+    }
+}
+
+fn show(letter: u8, number: u32, room: u16, file: &[u8]) {
+    if letter == LOAD {
+        show_load(file, number);
+    } else if letter == NOTE {
+        show_note(file, number);
+    } else if letter == WRITE {
+        show_write(file, number, room as usize);
+    } else {
+        write(b"no such question\n");
+    }
+}
+
+// All questions, up to one that is cut short.
+fn show_all(questions: &[u8])
+    requires { ⌜ length (now questions) ≤ 65536 ⌝ }
+{
+    let mut at: usize = 0;
+    while at + HEAD <= questions.len() {
+        let from = at + HEAD;
+        let size = records::u16_at(questions, at + SIZE) as usize;
+        if questions.len() - from < size {
+            write(b"question cut short\n");
+            return;
+        }
+        let to = from + size;
+        show(
+            questions[at],
+            records::u32_at(questions, at + NUMBER),
+            records::u16_at(questions, at + ROOM),
+            &questions[from..to],
+        );
+        at = to;
+    }
+}
+
+fn main() {
+    let mut space = io::large_buffer();
+    let count = io::read_full(STDIN_FILENO, &mut space);
+    show_all(&space[..count]);
+}

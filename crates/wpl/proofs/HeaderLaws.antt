@@ -1,0 +1,67 @@
+-- A file made of a header and a record area: refusals 1 to 5 pass it, and it gives back the version, the serial and the records that it was
+-- made of. Assumes nothing.
+use mathlib.Core.Path.{_≡_, refl, ap, _∙_}
+use mathlib.Core.Bool.{true}
+use mathlib.Core.List.{List, _++_}
+use Prim.Native.Nat.{ℕ, _+_, _-_, _≤_}
+use native.Mathlib.Omega.{arith}
+use lib.ListN.{length, drop}
+use borrow.Author.Tests.{le-leb, lt-ltb, eq-eqb}
+use Rattle.order.specs.Outcome.{good}
+use Rattle.order.specs.Sweep.{done, both}
+use Rattle.order.proofs.Bools.{both-true}
+use Rattle.order.proofs.OutcomeLaws.{check-true}
+use Rattle.records.specs.Numbers.{u16At, u32At, u16Bytes, u32Bytes}
+use Rattle.records.specs.Walk.{Walked, walk, fills, flat}
+use Rattle.records.specs.Gather.{headerLength}
+use Rattle.records.proofs.NumberLaws.{u16-back, u32-back}
+use Rattle.records.proofs.WalkLaws.{walk-flat}
+use Rattle.writer.specs.File.{withHeader}
+use Rattle.wpl.specs.Header.{mostArea, markedOf, versionOf, serialOf, areaOf, areaFits, headerOf}
+use Rattle.wpl.specs.Load.{recordsOf}
+
+module _ (version serial : ℕ) (area : List ℕ) where
+  -- ---- its numbers
+  pub header-version : versionOf (withHeader version serial area) ≡ version
+  unfolding versionOf withHeader u16At u16Bytes
+  header-version = u16-back version (u32Bytes serial ++ (u16Bytes (length area) ++ area))
+
+  pub header-serial : serialOf (withHeader version serial area) ≡ serial
+  unfolding serialOf withHeader u32At u16At u16Bytes u32Bytes
+  header-serial = u32-back serial (u16Bytes (length area) ++ area)
+
+  header-area : areaOf (withHeader version serial area) ≡ length area
+  unfolding areaOf withHeader u16At u16Bytes u32Bytes
+  header-area = u16-back (length area) area
+
+  header-length : length (withHeader version serial area) ≡ headerLength + length area
+  unfolding withHeader u16Bytes u32Bytes
+  header-length = omega arith
+
+  -- ---- its parts
+  header-marked : markedOf (withHeader version serial area) ≡ true
+  unfolding markedOf withHeader both
+  header-marked = refl
+
+  header-rest : drop headerLength (withHeader version serial area) ≡ area
+  unfolding withHeader u16Bytes u32Bytes
+  header-rest = refl
+
+  header-fits : length area ≤ mostArea → areaFits (withHeader version serial area) ≡ true
+  unfolding areaFits
+  header-fits h =
+      let n = length (withHeader version serial area) - headerLength in
+      rw header-area (both-true _ _ (eq-eqb (length area) n (omega (arith, header-length))) (le-leb (length area) mostArea h))
+
+  pub header-good : 1 ≤ version → (serial ≡ 0 → ⊥) → length area ≤ mostArea → headerOf (withHeader version serial area) ≡ good done
+  unfolding headerOf
+  header-good v s h =
+      check-true _ 1 _ (le-leb headerLength (length (withHeader version serial area)) (omega (arith, header-length)))
+      ∙ check-true _ 2 _ header-marked
+      ∙ check-true _ 3 _ (rw header-version (lt-ltb 0 version v))
+      ∙ check-true _ 4 _ (rw header-serial (lt-ltb 0 serial (omega arith)))
+      ∙ check-true _ 5 _ (header-fits h)
+
+pub header-records : (version serial : ℕ) (w : Walked) → fills w ≡ true → recordsOf (withHeader version serial (flat w)) ≡ w
+unfolding recordsOf
+header-records version serial w h = ap walk (header-rest version serial (flat w)) ∙ walk-flat w h

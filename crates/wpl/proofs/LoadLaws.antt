@@ -1,0 +1,280 @@
+-- A load, check by check: what the header's tests give, how a refusal ends the chain, and that the rules judge the plan in its arrays as they judge
+-- the lists of the file. Assumes nothing.
+use mathlib.Core.Path.{_≡_, refl, sym, ap, _∙_}
+use mathlib.Core.Bool.{true, false}
+use mathlib.Core.List.{List, [], _∷_}
+use mathlib.Core.Logic.{⊎-elim}
+use Prim.Native.Nat.{ℕ, zero, suc, _-_, _≤_, _<_}
+use native.Mathlib.Omega.{arith}
+use lib.Dec.{eqb, leb, ltb}
+use lib.ListN.{length, getD, drop}
+use borrow.Author.Tests.{le-leb, lt-leb, lt-ltb, le-ltb, eq-eqb, ne-eqb, ltb-true, ltb-false, eqb-true}
+use Rattle.integers.proofs.ChooseLaws.{choose-false}
+use Rattle.order.specs.declared.Refusal.{Refusal}
+use Rattle.order.specs.Outcome.{Outcome, good, refused, check, andThen, refusalOf}
+use Rattle.order.specs.Sweep.{Done, done, both}
+use Rattle.order.proofs.Bools.{by-bool, both-true, both-on, both-second, both-off, both-off-second}
+use Rattle.order.proofs.OutcomeLaws.{Proper, proper-good, proper-check, proper-then, check-true, check-false, then-good, then-stops}
+use Rattle.order.proofs.SweepLaws.{good-is}
+use Rattle.plane.specs.Area.{InArea}
+use Rattle.plan.specs.declared.Mode.{Mode}
+use Rattle.plan.specs.declared.Plan.{Plan}
+use Rattle.plan.specs.Limits.{fewestPoints, mostPoints, courses, withinOf, insideOf, zeroOf}
+use Rattle.plan.specs.Places.{noPoint, padded}
+use Rattle.plan.specs.Rules.{modeOf, coursesFit}
+use Rattle.plan.specs.Stands.{Bounded, rulesOf}
+use Rattle.plan.specs.Loaded.{planOf}
+use Rattle.plan.proofs.LimitLaws.{zero-area}
+use Rattle.plan.proofs.PlaceLaws.{rules-padded}
+use Rattle.plan.proofs.RuleLaws.{rules-few, rules-many, rules-courses, rules-proper, rules-clean, rules-passed}
+use Rattle.manager.specs.State.{startOf}
+use Rattle.records.specs.Kinds.{newest, between, Parts, noParts}
+use Rattle.records.specs.Gather.{headerLength, gatherFrom, InRange}
+use Rattle.records.specs.declared.Gathered.{Gathered}
+use Rattle.records.specs.Held.{counted, heldOf, gatheredOf}
+use Rattle.records.specs.Walk.{walk}
+use Rattle.records.proofs.GatherLaws.{gather-ranged, none-ranged, gather-proper, gathered-good, gathered-refused}
+use Rattle.wpl.specs.Header.{mostArea, markedOf, versionOf, serialOf, areaOf, areaFits, headerOf}
+use Rattle.wpl.specs.Load.{recordsOf, partsOf, settleOf, rulesIn, finishOf, bodyOf, loadOf}
+
+-- ---- refusals 1 to 5
+module _ (f : List ℕ) (n : ℕ) (e : n ≡ areaOf f) where
+  pub area-equal : n ≡ length f - headerLength → leb n mostArea ≡ areaFits f
+  unfolding areaFits
+  area-equal k = ap (λ (m : ℕ). leb m mostArea) e ∙ sym (both-on _ _ (eq-eqb _ _ (sym e ∙ k)))
+
+  pub area-other : (n ≡ length f - headerLength → ⊥) → areaFits f ≡ false
+  unfolding areaFits
+  area-other k = both-off _ _ (ne-eqb _ _ (λ q. k (e ∙ q)))
+
+module _ (f : List ℕ) where
+  pub too-short : length f < headerLength → headerOf f ≡ refused 1 0
+  unfolding headerOf
+  too-short h = check-false _ 1 _ (lt-leb headerLength (length f) h)
+
+  module _ (long : headerLength ≤ length f) where
+    pub unmarked : markedOf f ≡ false → headerOf f ≡ refused 2 0
+    unfolding headerOf check
+    unmarked m = rw (le-leb headerLength (length f) long, m)
+
+    module _ (m : markedOf f ≡ true) where
+      pub unversioned : versionOf f ≡ 0 → headerOf f ≡ refused 3 0
+      unfolding headerOf check
+      unversioned v = rw (le-leb headerLength (length f) long, m, le-ltb 0 (versionOf f) (omega (arith, v)))
+
+      module _ (v : versionOf f ≡ 0 → ⊥) where
+        pub unnumbered : serialOf f ≡ 0 → headerOf f ≡ refused 4 0
+        unfolding headerOf check
+        unnumbered n =
+            rw (le-leb headerLength (length f) long, m, lt-ltb 0 (versionOf f) (omega (arith, v)), le-ltb 0 (serialOf f) (omega (arith, n)))
+
+        module _ (n : serialOf f ≡ 0 → ⊥) where
+          last : headerOf f ≡ check (areaFits f) 5 (good done)
+          unfolding headerOf check
+          last =
+              rw (le-leb headerLength (length f) long, m, lt-ltb 0 (versionOf f) (omega (arith, v)), lt-ltb 0 (serialOf f) (omega (arith, n)))
+
+          pub misfit : areaFits f ≡ false → headerOf f ≡ refused 5 0
+          misfit a = last ∙ check-false _ 5 _ a
+
+          pub passes : areaFits f ≡ true → headerOf f ≡ good done
+          passes a = last ∙ check-true _ 5 _ a
+
+  header-proper : Proper (headerOf f)
+  unfolding headerOf
+  header-proper =
+      proper-check _ 1 _ refl
+      (proper-check _ 2 _ refl (proper-check _ 3 _ refl (proper-check _ 4 _ refl (proper-check _ 5 _ refl (proper-good done)))))
+
+-- ---- one check after another
+pub refusal-is : {A : Type 0} (o : Outcome A) (n q : ℕ) → refusalOf o ≡ record { number = n; place = q } → (n ≡ 0 → ⊥) → o ≡ refused n q
+unfolding refusalOf
+refusal-is (good a) n q e h = absurd (h (sym (ap (λ (r : Refusal). r .number) e)))
+refusal-is {A} (refused m p) n q e h = λ i. refused (e i .number) (e i .place)
+
+module _ (r : ℕ) (f : List ℕ) where
+  pub reader-low : r < 1 → loadOf r f ≡ refused 3 0
+  unfolding loadOf between
+  reader-low h = check-false _ 3 _ (both-off _ _ (lt-leb 1 r h))
+
+  pub reader-high : newest < r → loadOf r f ≡ refused 3 0
+  unfolding loadOf between
+  reader-high h = check-false _ 3 _ (both-off-second _ _ (lt-leb r newest h))
+
+  module _ (low : 1 ≤ r) (high : r ≤ newest) where
+    reader-right : loadOf r f ≡ andThen (headerOf f) (λ (_ : Done). bodyOf r f)
+    unfolding loadOf between
+    reader-right = check-true _ 3 _ (both-true _ _ (le-leb 1 r low) (le-leb r newest high))
+
+    pub header-stops : (n : ℕ) → refusalOf (headerOf f) ≡ record { number = n; place = 0 } → (n ≡ 0 → ⊥) → loadOf r f ≡ refused n 0
+    header-stops n e h = reader-right ∙ then-stops (headerOf f) n 0 _ (refusal-is (headerOf f) n 0 e h)
+
+    module _ (n : ℕ) (e : refusalOf (headerOf f) ≡ record { number = n; place = 0 }) (z : n ≡ 0) where
+      header-passes : loadOf r f ≡ bodyOf r f
+      header-passes =
+          reader-right ∙ then-good (headerOf f) done _ (good-is (headerOf f) (header-proper f ∙ ap (λ (q : Refusal). eqb (q .number) 0) e ∙ ap (λ (k : ℕ). eqb k 0) z))
+
+      pub records-stop : (m q : ℕ) → partsOf r f ≡ refused m q → loadOf r f ≡ refused m q
+      unfolding bodyOf
+      records-stop m q k = header-passes ∙ then-stops (partsOf r f) m q _ k
+
+      pub records-give : (a : Parts) → partsOf r f ≡ good a → loadOf r f ≡ finishOf (serialOf f) a
+      unfolding bodyOf settleOf andThen
+      records-give a k = header-passes ∙ rw k
+
+  -- no refusal has the number 0
+  pub load-proper : Proper (loadOf r f)
+  unfolding loadOf bodyOf partsOf settleOf finishOf rulesIn
+  load-proper =
+      proper-check _ 3 _ refl
+      (proper-then _ _ (header-proper f)
+      (λ _. proper-then _ _ (gather-proper r (versionOf f) (recordsOf f) headerLength noParts)
+      (λ a. proper-then (good a) _ (proper-good a) (λ b. proper-then _ _ (rules-proper _ _ _ _ _ _) (λ _. proper-good _)))))
+
+-- ---- the plan in its arrays
+-- every place of a padded list is one of the list's or the filling
+padded-all : {A : Type 0} (P : A → Type 0) (n : ℕ) (d : A) (xs : List A) → P d → ((i : ℕ) → i < length xs → P (getD xs i d)) → (i : ℕ) → P (getD (padded n d xs) i d)
+unfolding padded
+padded-all P zero d xs q h i = q
+padded-all P (suc n) d [] q h zero = q
+padded-all P (suc n) d [] q h (suc i) = padded-all P n d [] q h i
+padded-all P (suc n) d (x ∷ xs) q h zero = h 0 (omega arith)
+padded-all P (suc n) d (x ∷ xs) q h (suc i) = padded-all P n d xs q (λ j l. h (suc j) (omega arith)) i
+
+none-in-area : InArea noPoint
+unfolding zeroOf insideOf withinOf both
+none-in-area = zero-area noPoint refl
+
+-- 9 has passed: no more courses than points
+given-most : (R given n : ℕ) → n ≤ mostPoints → coursesFit R given n ≡ true → given ≤ mostPoints
+unfolding coursesFit
+given-most R given n h k =
+    by-bool (eqb given 0) (λ t. let z = eqb-true given 0 t in omega arith)
+    (λ u. let e = eqb-true given n (both-second _ _ (sym (choose-false _ _ _ u) ∙ k)) in omega arith)
+
+-- ---- what `finish` makes of gathered parts
+abbrev pub heldPlan : ℕ → Parts → Plan
+heldPlan serial a =
+    record {
+      serial = serial;
+      mode = modeOf (a .radius) (counted (length (a .courses)));
+      radius = a .radius;
+      count = counted (length (a .points));
+      points = padded mostPoints noPoint (a .points);
+      courses = padded mostPoints 0 (a .courses);
+    }
+
+pub held-bounded : (serial : ℕ) (a : Parts) → InRange a → Bounded (heldPlan serial a)
+held-bounded serial a h =
+    record {
+      ranged = λ i l. padded-all InArea mostPoints noPoint (a .points) none-in-area (h .points) i;
+      radius = ⊎-elim (λ z. omega arith) (λ k. k .1) (h .radius);
+      aimed = λ i l. padded-all (λ (c : ℕ). c < courses) mostPoints 0 (a .courses) (omega arith) (h .courses) i;
+    }
+
+module _ (serial : ℕ) (a : Parts) where
+  abbrev Same : Type 0
+  Same = rulesOf (heldPlan serial a) (counted (length (a .courses))) ≡ rulesIn a
+
+  few : length (a .points) < fewestPoints → Same
+  unfolding rulesIn
+  few h =
+      rules-few _ _ _ (counted (length (a .points))) _ _ (omega arith) ∙ sym (rules-few _ _ _ (length (a .points)) _ _ h)
+
+  many : mostPoints < length (a .points) → Same
+  unfolding rulesIn
+  many h =
+      rules-many _ _ _ (counted (length (a .points))) _ _ (omega arith) (omega arith) ∙ sym (rules-many _ _ _ (length (a .points)) _ _ (omega arith) h)
+
+  module _ (least : fewestPoints ≤ length (a .points)) (most : length (a .points) ≤ mostPoints) where
+    points-counted : counted (length (a .points)) ≡ length (a .points)
+    points-counted = omega arith
+
+    -- more courses than a plan has points
+    some-only : (given : ℕ) → mostPoints < given → coursesFit (a .radius) given (length (a .points)) ≡ false
+    unfolding coursesFit
+    some-only given h =
+        choose-false _ _ _ (ne-eqb given 0 (λ e. omega arith)) ∙ both-off-second _ _ (ne-eqb given (length (a .points)) (λ e. omega arith))
+
+    over-given : mostPoints < length (a .courses) → Same
+    unfolding rulesIn
+    over-given h =
+        rw points-counted
+        (rules-courses _ _ (counted (length (a .courses))) (length (a .points)) _ _ least most (some-only _ (omega arith))
+        ∙ sym (rules-courses _ _ (length (a .courses)) (length (a .points)) _ _ least most (some-only _ h)))
+
+    pub all-held : length (a .courses) ≤ mostPoints → heldPlan serial a ≡ planOf serial (a .radius) (a .points) (a .courses)
+    all-held h =
+        let e : counted (length (a .courses)) ≡ length (a .courses) = omega arith in
+        rw (e, points-counted)
+
+    stored : length (a .courses) ≤ mostPoints → Same
+    unfolding rulesIn
+    stored h =
+        let e : counted (length (a .courses)) ≡ length (a .courses) = omega arith in
+        rw (e, points-counted) (rules-padded _ _ _ _ (a .points) (a .courses) most h)
+
+  pub rules-held : Same
+  rules-held =
+      by-bool (ltb (length (a .points)) fewestPoints) (λ t. few (ltb-true _ _ t))
+      (λ u. by-bool (ltb mostPoints (length (a .points))) (λ t. many (ltb-true _ _ t))
+      (λ w. by-bool (ltb mostPoints (length (a .courses))) (λ t. over-given (ltb-false _ _ u) (ltb-false _ _ w) (ltb-true _ _ t))
+      (λ x. stored (ltb-false _ _ u) (ltb-false _ _ w) (ltb-false _ _ x))))
+
+-- the plan as `finish` puts it together
+module _ (serial : ℕ) (g : Gathered) (mode : Mode) where
+  abbrev pub planFrom : Plan
+  planFrom =
+      record { serial = serial; mode = mode; radius = g .radius; count = g .count; points = g .points; courses = g .courses }
+
+  module _ (fits : mode ≡ modeOf (g .radius) (g .given)) (a : Parts) (e : g ≡ gatheredOf (good a)) where
+    made : planFrom ≡ heldPlan serial a
+    unfolding gatheredOf heldOf
+    made = rw (fits, e)
+
+    pub made-bounded : InRange a → Bounded planFrom
+    made-bounded h = rw made (held-bounded serial a h)
+
+    module _ (found : Refusal) (k : found ≡ refusalOf (rulesOf planFrom (g .given))) where
+      judged : found ≡ refusalOf (rulesIn a)
+      unfolding gatheredOf heldOf
+      judged = k ∙ (λ i. refusalOf (rulesOf (made i) (e i .given))) ∙ ap refusalOf (rules-held serial a)
+
+      pub finish-refused : (found .number ≡ 0 → ⊥) → finishOf serial a ≡ refused (found .number) (found .place)
+      unfolding finishOf
+      finish-refused h = then-stops (rulesIn a) _ _ _ (refusal-is (rulesIn a) _ _ (sym judged) h)
+
+      pub finish-good : found .number ≡ 0 → finishOf serial a ≡ good (startOf planFrom)
+      unfolding finishOf rulesIn
+      finish-good z =
+          let o = rules-clean _ _ _ _ _ _ (ap (λ (q : Refusal). q .number) (sym judged) ∙ z) in
+          let p = rules-passed _ _ _ _ _ _ o in
+          then-good (rulesIn a) done _ (good-is (rulesIn a) o)
+          ∙ ap (λ (q : Plan). good (startOf q)) (sym (made ∙ all-held serial a (p .least) (p .most) (given-most _ _ _ (p .most) (p .courses))))
+
+-- ---- what `load` gets from the records
+module _ (r : ℕ) (f : List ℕ) (v : ℕ) (ev : v ≡ versionOf f) (g : Gathered) (eg : g ≡ gatheredOf (gatherFrom r v f headerLength noParts)) where
+  parts-is : gatherFrom r v f headerLength noParts ≡ partsOf r f
+  unfolding gatherFrom partsOf recordsOf
+  parts-is = rw ev
+
+  pub gather-stops : (g .refusal ≡ 0 → ⊥) → partsOf r f ≡ refused (g .refusal) (g .place)
+  gather-stops h =
+      sym parts-is ∙ gathered-refused _ (λ z. h (ap (λ (x : Gathered). x .refusal) eg ∙ z)) ∙ (λ i. refused (sym eg i .refusal) (sym eg i .place))
+
+  pub record Gives : Type 0 where
+    pub parts : Parts
+    pub ranged : InRange parts
+    pub held : g ≡ gatheredOf (good parts)
+    pub are : partsOf r f ≡ good parts
+
+  pub gather-gives : g .refusal ≡ 0 → Gives
+  unfolding gatherFrom
+  gather-gives z =
+      let x = gathered-good _ (gather-proper r v (walk (drop headerLength f)) headerLength noParts) (ap (λ (y : Gathered). y .refusal) (sym eg) ∙ z) in
+      record {
+        parts = x .0;
+        ranged = gather-ranged r v (walk (drop headerLength f)) headerLength noParts (x .0) none-ranged (x .1);
+        held = eg ∙ ap gatheredOf (x .1);
+        are = sym parts-is ∙ x .1;
+      }

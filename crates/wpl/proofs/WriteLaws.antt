@@ -1,0 +1,103 @@
+-- A write, check by check, and what is known where none of them refused. Assumes nothing.
+use mathlib.Core.Path.{_≡_, refl, ap, _∙_}
+use mathlib.Core.Bool.{true, false}
+use Prim.Native.Nat.{ℕ, _≤_, _<_}
+use native.Mathlib.Omega.{arith}
+use lib.Dec.{eqb, leb}
+use lib.ListN.{length}
+use borrow.Author.Tests.{leb-true, le-leb, lt-leb}
+use Rattle.order.specs.declared.Refusal.{Refusal}
+use Rattle.order.specs.Outcome.{good, refused, check, refusalOf, isGood}
+use Rattle.order.proofs.Bools.{both-true, both-second, both-off, both-off-second}
+use Rattle.order.proofs.OutcomeLaws.{Proper, proper-good, proper-check, check-true, check-false, check-first, check-rest}
+use Rattle.plan.specs.declared.Mode.{Mode}
+use Rattle.plan.specs.declared.Mode.the-variants.{Lines, Fillets, Dubins}
+use Rattle.plan.specs.Limits.{mostPoints}
+use Rattle.manager.specs.declared.State.{State}
+use Rattle.manager.specs.State.{validOf}
+use Rattle.manager.proofs.StateLaws.{valid-means}
+use Rattle.records.specs.Kinds.{newest, between}
+use Rattle.writer.specs.File.{fileOf}
+use Rattle.wpl.specs.Write.{carriedSince, writeOf}
+use Rattle.wpl.proofs.LoadLaws.{refusal-is}
+
+pub between-test : (a b x : ℕ) → a ≤ x → x ≤ b → between a b x ≡ true
+unfolding between
+between-test a b x h k = both-true _ _ (le-leb a x h) (le-leb x b k)
+
+-- no version before the first carries a plan
+pub since-first : (mode : Mode) → 1 ≤ carriedSince mode
+unfolding carriedSince
+since-first Lines = omega arith
+since-first Fillets = omega arith
+since-first Dubins = omega arith
+
+-- what is known where a write succeeds
+pub record Passes (s : State) (version room : ℕ) : Type 0 where
+  pub valid : validOf s ≡ true
+  pub newer : version ≤ newest
+  pub carried : carriedSince (s .plan .mode) ≤ version
+  pub roomy : length (fileOf version (s .plan)) ≤ room
+
+module _ (s : State) (version room : ℕ) where
+  pub not-valid : validOf s ≡ false → writeOf s version room ≡ refused 14 0
+  unfolding writeOf
+  not-valid v = check-false _ 14 _ v
+
+  module _ (v : validOf s ≡ true) where
+    pub version-low : version < 1 → writeOf s version room ≡ refused 3 0
+    unfolding writeOf between
+    version-low h = check-true _ 14 _ v ∙ check-false _ 3 _ (both-off _ _ (lt-leb 1 version h))
+
+    pub version-high : newest < version → writeOf s version room ≡ refused 3 0
+    unfolding writeOf between
+    version-high h = check-true _ 14 _ v ∙ check-false _ 3 _ (both-off-second _ _ (lt-leb version newest h))
+
+    module _ (low : 1 ≤ version) (high : version ≤ newest) where
+      pub not-carried : version < carriedSince (s .plan .mode) → writeOf s version room ≡ refused 7 0
+      unfolding writeOf
+      not-carried h =
+          check-true _ 14 _ v ∙ check-true _ 3 _ (between-test 1 newest version low high) ∙ check-false _ 7 _ (lt-leb (carriedSince (s .plan .mode)) version h)
+
+      last : carriedSince (s .plan .mode) ≤ version
+          → writeOf s version room ≡ check (leb (length (fileOf version (s .plan))) room) 16 (good (fileOf version (s .plan)))
+      unfolding writeOf
+      last c =
+          check-true _ 14 _ v ∙ check-true _ 3 _ (between-test 1 newest version low high) ∙ check-true _ 7 _ (le-leb (carriedSince (s .plan .mode)) version c)
+
+      pub no-room : carriedSince (s .plan .mode) ≤ version → room < length (fileOf version (s .plan)) → writeOf s version room ≡ refused 16 0
+      no-room c h = last c ∙ check-false _ 16 _ (lt-leb (length (fileOf version (s .plan))) room h)
+
+  pub write-passes : Passes s version room → writeOf s version room ≡ good (fileOf version (s .plan))
+  write-passes p =
+      last (p .valid) (omega (arith, since-first (s .plan .mode), p .carried)) (p .newer) (p .carried)
+      ∙ check-true _ 16 _ (le-leb (length (fileOf version (s .plan))) room (p .roomy))
+
+  -- and back
+  pub good-passes : isGood (writeOf s version room) ≡ true → Passes s version room
+  unfolding writeOf between
+  good-passes g =
+      let a = check-rest _ 14 _ g in
+      let b = check-rest _ 3 _ a in
+      let c = check-rest _ 7 _ b in
+      record {
+        valid = check-first _ 14 _ g;
+        newer = leb-true version newest (both-second (leb 1 version) (leb version newest) (check-first _ 3 _ a));
+        carried = leb-true (carriedSince (s .plan .mode)) version (check-first _ 7 _ b);
+        roomy = leb-true (length (fileOf version (s .plan))) room (check-first _ 16 _ c);
+      }
+
+  write-proper : Proper (writeOf s version room)
+  unfolding writeOf
+  write-proper =
+      proper-check _ 14 _ refl (proper-check _ 3 _ refl (proper-check _ 7 _ refl (proper-check _ 16 _ refl (proper-good _))))
+
+  -- from the number that the code saw
+  pub write-refused : (n : ℕ) → refusalOf (writeOf s version room) ≡ record { number = n; place = 0 } → (n ≡ 0 → ⊥) → writeOf s version room ≡ refused n 0
+  write-refused n e h = refusal-is (writeOf s version room) n 0 e h
+
+  pub none-refused : (n : ℕ) → refusalOf (writeOf s version room) ≡ record { number = n; place = 0 } → n ≡ 0 → Passes s version room
+  none-refused n e z = good-passes (write-proper ∙ ap (λ (q : Refusal). eqb (q .number) 0) e ∙ ap (λ (k : ℕ). eqb k 0) z)
+
+pub count-most : (s : State) → validOf s ≡ true → s .plan .count ≤ mostPoints
+count-most s v = valid-means s v .stands .most

@@ -1,0 +1,39 @@
+-- Document 01: "Header, 11 bytes: 57 50 4C ("WPL"), version u16, serial u32, area length u16", and refusals 1 to 5. Assumes nothing.
+use mathlib.Core.Bool.{Bool}
+use mathlib.Core.List.{List}
+use Prim.Native.Nat.{ℕ, _-_}
+use lib.Dec.{eqb, leb, ltb}
+use lib.ListN.{length, getD}
+use Rattle.order.specs.Outcome.{Outcome, good, check}
+use Rattle.order.specs.Sweep.{Done, done, both}
+use Rattle.records.specs.Numbers.{u16At, u32At}
+use Rattle.records.specs.Gather.{headerLength}
+
+-- "record area at most 8,192 bytes"
+abbrev pub mostArea : ℕ
+mostArea = 8192
+
+unfoldable pub markedOf : List ℕ → Bool
+markedOf f = both (eqb (getD f 0 0) 0x57) (both (eqb (getD f 1 0) 0x50) (eqb (getD f 2 0) 0x4C))
+
+unfoldable pub versionOf : List ℕ → ℕ
+versionOf f = u16At f 3
+
+unfoldable pub serialOf : List ℕ → ℕ
+serialOf f = u32At f 5
+
+unfoldable pub areaOf : List ℕ → ℕ
+areaOf f = u16At f 9
+
+-- 5: "area length differs from the bytes after the header, or exceeds 8,192"
+unfoldable pub areaFits : List ℕ → Bool
+areaFits f = both (eqb (areaOf f) (length f - headerLength)) (leb (areaOf f) mostArea)
+
+-- 1: "under 11 bytes", 2: "mark differs", 3: "file version 0", 4: "serial 0", and 5
+unfoldable pub headerOf : List ℕ → Outcome Done
+headerOf f =
+    check (leb headerLength (length f)) 1
+    (check (markedOf f) 2
+    (check (ltb 0 (versionOf f)) 3
+    (check (ltb 0 (serialOf f)) 4
+    (check (areaFits f) 5 (good done)))))

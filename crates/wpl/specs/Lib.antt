@@ -1,0 +1,5 @@
+pub mod Header
+pub mod Load
+pub mod Note
+pub mod Write
+pub mod RoundTrip

@@ -1,0 +1,51 @@
+-- Document 01: "A load checks in this order: reader version, 1, 2, 3, 4, 5; then the records from the first (6 or 7); then 8, 9; then all
+-- pairs for 10, all corners for 11, all legs for 12 and 17." Assumes nothing.
+use mathlib.Core.List.{List}
+use Prim.Native.Nat.{ℕ}
+use lib.ListN.{length, drop}
+use Rattle.order.specs.Outcome.{Outcome, good, refused, check, andThen}
+use Rattle.order.specs.Sweep.{Done}
+use Rattle.plan.specs.Places.{pointsAt, coursesAt}
+use Rattle.plan.specs.Rules.{modeOf, rulesOn}
+use Rattle.plan.specs.Loaded.{planOf}
+use Rattle.manager.specs.declared.State.{State}
+use Rattle.manager.specs.State.{emptyState, startOf}
+use Rattle.records.specs.Walk.{Walked, walk}
+use Rattle.records.specs.Kinds.{newest, between, Parts, noParts}
+use Rattle.records.specs.Gather.{headerLength, gather}
+use Rattle.wpl.specs.declared.Loaded.{Loaded}
+use Rattle.wpl.specs.Header.{versionOf, serialOf, headerOf}
+
+-- "a file holds the records met from offset 11 by their own lengths"
+unfoldable pub recordsOf : List ℕ → Walked
+recordsOf f = walk (drop headerLength f)
+
+unfoldable pub partsOf : ℕ → List ℕ → Outcome Parts
+partsOf r f = gather r (versionOf f) headerLength noParts (recordsOf f)
+
+-- what only the whole walk decides, before 8: nothing in versions one to three
+unfoldable pub settleOf : Walked → Parts → Outcome Parts
+settleOf w a = good a
+
+-- 8 to 12 and 17
+unfoldable pub rulesIn : Parts → Outcome Done
+rulesIn a =
+    rulesOn (modeOf (a .radius) (length (a .courses))) (a .radius) (length (a .courses)) (length (a .points)) (pointsAt (a .points)) (coursesAt (a .courses))
+
+-- the state at the start of the plan that the parts make
+unfoldable pub finishOf : ℕ → Parts → Outcome State
+finishOf serial a =
+    andThen (rulesIn a) (λ (_ : Done). good (startOf (planOf serial (a .radius) (a .points) (a .courses))))
+
+-- what the records and the rules after them give, once the header has passed
+unfoldable pub bodyOf : ℕ → List ℕ → Outcome State
+bodyOf r f = andThen (partsOf r f) (λ (a : Parts). andThen (settleOf (recordsOf f) a) (finishOf (serialOf f)))
+
+-- 3: "reader .. asked for a version outside 1..3"
+unfoldable pub loadOf : ℕ → List ℕ → Outcome State
+loadOf r f = check (between 1 newest r) 3 (andThen (headerOf f) (λ (_ : Done). bodyOf r f))
+
+-- as the struct that `load` answers: "A refused load gives number, place and the empty state"
+unfoldable pub loadedOf : Outcome State → Loaded
+loadedOf (good s) = record { refusal = 0; place = 0; state = s }
+loadedOf (refused number place) = record { refusal = number; place = place; state = emptyState }

@@ -1,0 +1,40 @@
+-- Document 01: "A note is shown as a part of the caller's file, by its number from 1; where the version-three reader refuses the file or there
+-- is no such note, the part is empty." Assumes nothing.
+use mathlib.Core.Bool.{Bool}
+use mathlib.Core.List.{List, []}
+use Prim.Native.Nat.{ℕ, _-_, _≤_}
+use lib.Dec.{eqb}
+use lib.ListN.{take, drop}
+use Rattle.integers.specs.Choose.{choose}
+use Rattle.order.specs.Outcome.{isGood}
+use Rattle.order.specs.Sweep.{both}
+use Rattle.records.specs.Walk.{Walked, end, short, more}
+use Rattle.records.specs.Kinds.{newest}
+use Rattle.wpl.specs.declared.Span.{Span}
+use Rattle.wpl.specs.declared.Span.the-variants.{At, Nothing}
+use Rattle.wpl.specs.Load.{recordsOf, loadOf}
+
+-- whether a record of kind k is the note that is looked for, n notes on, and how many notes on it is after one that is not
+unfoldable pub wantedOf : ℕ → ℕ → Bool
+wantedOf k n = both (eqb k 128) (eqb n 1)
+
+unfoldable pub leftOf : ℕ → ℕ → ℕ
+leftOf k n = choose (eqb k 128) (n - 1) n
+
+-- the body of the n-th note of some records, from 1
+unfoldable pub noteIn : ℕ → Walked → List ℕ
+noteIn n end = []
+noteIn n short = []
+noteIn n (more k b w) = choose (wantedOf k n) b (noteIn (leftOf k n) w)
+
+unfoldable pub noteOf : List ℕ → ℕ → List ℕ
+noteOf f n = choose (isGood (loadOf newest f)) (noteIn n (recordsOf f)) []
+
+-- ---- by offsets, as the code finds it
+abbrev pub Within : Span → ℕ → Type 0
+Within Nothing n = Unit {0}
+Within (At start stop) n = (start ≤ stop) × (stop ≤ n)
+
+abbrev pub partOf : Span → List ℕ → List ℕ
+partOf Nothing f = []
+partOf (At start stop) f = take (stop - start) (drop start f)

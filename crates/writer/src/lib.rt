@@ -1,0 +1,222 @@
+// The bytes of a plan file (document 01, "The plan file"): header, radius if any, then each point followed by its course if it has one.
+use plan::Plan;
+use plane::Point;
+use records::AREA;
+use records::COURSE_KIND;
+use records::HEAD;
+use records::HEADER;
+use records::MARK;
+use records::POINT_KIND;
+use records::RADIUS_KIND;
+use records::SERIAL;
+use records::VERSION;
+ghost use mathlib.Core.Path.{_≡_};
+ghost use mathlib.Core.List.{[], _∷_};
+ghost use Prim.Native.Nat.{ℕ, _+_, _≤_, _<_};
+ghost use lib.ListN.{length};
+ghost use mir.Syntax.{w32};
+ghost use mir.Val.{ofZ};
+ghost use Rattle.plan.specs.Limits.{mostPoints};
+ghost use Rattle.records.specs.Numbers.{u16Bytes, u32Bytes};
+ghost use Rattle.records.specs.Gather.{headerLength};
+ghost use Rattle.records.specs.Walk.{flat};
+ghost use Rattle.records.specs.Kinds.{pointBytes};
+ghost use Rattle.buffers.specs.Splice.{over, splice};
+ghost use Rattle.writer.specs.File.{planRecords, fileOf};
+ghost use Rattle.writer.specs.Pieces.{mark, headerBytes, recordBytes, radiusBytes, placeBytes, placesBytes};
+
+// The lengths of the bodies, and of the records with them.
+const POINT_BODY: u8 = 12;
+
+const VALUE_BODY: u8 = 2;
+
+const POINT_RECORD: usize = 14;
+
+const VALUE_RECORD: usize = 4;
+
+// Where the lower half of a number of four bytes stands, and two numbers of a point.
+const LOWER: usize = 2;
+
+const EAST: usize = 4;
+
+const DOWN: usize = 8;
+
+// How many values one byte has, and two.
+const ONE_BYTE: u16 = 256;
+
+const TWO_BYTES: u32 = 65536;
+
+// The bits of -1.
+const MINUS_ONE: u32 = 4294967295;
+
+// Two's complement.
+fn bits(z: i32) -> u32
+    ensures { λ r. ⌜ r ≡ ofZ w32 z ⌝ }
+{
+    if 0 <= z {
+        return z as u32;
+    }
+    MINUS_ONE - ((-1 - z) as u32)
+}
+
+// A number as two bytes, big-endian, at the front of a part.
+fn put_u16(value: u16, part: &mut [u8])
+    requires { ⌜ 2 ≤ length (now part) ⌝ }
+    ensures { λ _. ⌜ now (part .exit) ≡ over (u16Bytes value) (now (part .entry)) ⌝ }
+{
+    part[0] = (value / ONE_BYTE) as u8;
+    part[1] = (value % ONE_BYTE) as u8;
+}
+
+// A number as four bytes.
+fn put_u32(value: u32, part: &mut [u8])
+    requires { ⌜ 4 ≤ length (now part) ⌝ }
+    ensures { λ _. ⌜ now (part .exit) ≡ over (u32Bytes value) (now (part .entry)) ⌝ }
+{
+    put_u16((value / TWO_BYTES) as u16, part);
+    put_u16((value % TWO_BYTES) as u16, &mut part[LOWER..]);
+}
+
+// The body of a point.
+fn put_point(point: Point, part: &mut [u8])
+    requires { ⌜ 12 ≤ length (now part) ⌝ }
+    ensures { λ _. ⌜ now (part .exit) ≡ over (pointBytes point) (now (part .entry)) ⌝ }
+{
+    put_u32(bits(point.north), part);
+    put_u32(bits(point.east), &mut part[EAST..]);
+    put_u32(bits(point.down), &mut part[DOWN..]);
+}
+
+// The mark, at the front of a file.
+fn put_mark(file: &mut [u8])
+    requires { ⌜ 3 ≤ length (now file) ⌝ }
+    ensures { λ _. ⌜ now (file .exit) ≡ over mark (now (file .entry)) ⌝ }
+{
+    file[0] = MARK[0];
+    file[1] = MARK[1];
+    file[2] = MARK[2];
+}
+
+// The header before an area of so many bytes.
+fn put_header(version: u16, serial: u32, size: u16, file: &mut [u8])
+    requires { ⌜ headerLength ≤ length (now file) ⌝ }
+    ensures { λ _. ⌜ now (file .exit) ≡ over (headerBytes version serial size) (now (file .entry)) ⌝ }
+{
+    put_mark(file);
+    put_u16(version, &mut file[VERSION..]);
+    put_u32(serial, &mut file[SERIAL..]);
+    put_u16(size, &mut file[AREA..]);
+}
+
+// What stands before a record's body.
+fn put_head(kind: u8, size: u8, at: usize, file: &mut [u8])
+    requires { ⌜ at + 2 ≤ length (now file) ⌝ }
+    ensures { λ _. ⌜ now (file .exit) ≡ splice at (kind ∷ size ∷ []) (now (file .entry)) ⌝ }
+{
+    file[at] = kind;
+    file[at + 1] = size;
+}
+
+// The record of a point.
+fn put_point_record(point: Point, at: usize, file: &mut [u8])
+    requires { ⌜ at + 14 ≤ length (now file) ⌝ }
+    ensures { λ _. ⌜ now (file .exit) ≡ splice at (recordBytes 1 (pointBytes point)) (now (file .entry)) ⌝ }
+{
+    put_head(POINT_KIND, POINT_BODY, at, file);
+    let body = at + HEAD;
+    put_point(point, &mut file[body..]);
+}
+
+// The record of a kind that has a value of two bytes.
+fn put_value_record(kind: u8, value: u16, at: usize, file: &mut [u8])
+    requires { ⌜ at + 4 ≤ length (now file) ⌝ }
+    ensures { λ _. ⌜ now (file .exit) ≡ splice at (recordBytes kind (u16Bytes value)) (now (file .entry)) ⌝ }
+{
+    put_head(kind, VALUE_BODY, at, file);
+    let body = at + HEAD;
+    put_u16(value, &mut file[body..]);
+}
+
+// The radius, if any, behind the header. The answer is the offset behind it.
+fn put_radius(radius: u16, file: &mut [u8]) -> usize
+    requires { ⌜ headerLength + length (radiusBytes radius) ≤ length (now file) ⌝ }
+    ensures { λ _. ⌜ now (file .exit) ≡ splice headerLength (radiusBytes radius) (now (file .entry)) ⌝ }
+    ensures { λ r. ⌜ r ≡ headerLength + length (radiusBytes radius) ⌝ }
+{
+    if radius == 0 {
+        return HEADER;
+    }
+    put_value_record(RADIUS_KIND, radius, HEADER, file);
+    HEADER + VALUE_RECORD
+}
+
+// A point, and its course if it has one. The answer is the offset behind them.
+fn put_place(point: Point, aimed: bool, course: u16, at: usize, file: &mut [u8]) -> usize
+    requires { ⌜ at + length (placeBytes aimed point course) ≤ length (now file) ⌝ }
+    ensures { λ _. ⌜ now (file .exit) ≡ splice at (placeBytes aimed point course) (now (file .entry)) ⌝ }
+    ensures { λ r. ⌜ r ≡ at + length (placeBytes aimed point course) ⌝ }
+{
+    put_point_record(point, at, file);
+    let next = at + POINT_RECORD;
+    if aimed {
+        put_value_record(COURSE_KIND, course, next, file);
+        return next + VALUE_RECORD;
+    }
+    next
+}
+
+// All points of a plan, each followed by its course if it has one.
+fn put_places(plan: Plan, from: usize, file: &mut [u8])
+    requires { ⌜ (plan .count ≤ mostPoints) × (from + length (placesBytes plan) ≤ length (now file)) ⌝ }
+    ensures { λ _. ⌜ now (file .exit) ≡ splice from (placesBytes plan) (now (file .entry)) ⌝ }
+{
+    let mode = plan.mode;
+    let count = plan.count;
+    let given = plan::given_of(mode, count);
+    let mut at = from;
+    let mut i: usize = 0;
+    while i < count {
+        let point = plan.points[i];
+        let course = plan.courses[i];
+        at = put_place(point, i < given, course, at, file);
+        i += 1;
+    }
+}
+
+// How many bytes the radius takes.
+fn radius_length(radius: u16) -> usize
+    ensures { λ r. ⌜ (r ≡ length (radiusBytes radius)) × (r ≤ 4) ⌝ }
+{
+    if radius == 0 {
+        return 0;
+    }
+    VALUE_RECORD
+}
+
+// How many bytes the records of a plan take. They fit the header's two bytes.
+fn area_length(plan: Plan) -> usize
+    requires { ⌜ plan .count ≤ mostPoints ⌝ }
+    ensures { λ r. ⌜ (r ≡ length (flat (planRecords plan))) × (r < 65536) ⌝ }
+{
+    let mode = plan.mode;
+    let count = plan.count;
+    radius_length(plan.radius) + POINT_RECORD * count + VALUE_RECORD * plan::given_of(mode, count)
+}
+
+// How many bytes the file of a plan has, at any version.
+pub fn file_length(plan: Plan) -> usize
+    requires { ⌜ plan .count ≤ mostPoints ⌝ }
+    ensures { λ r. ⌜ ((version : ℕ) → r ≡ length (fileOf version plan)) ⌝ }
+{
+    HEADER + area_length(plan)
+}
+
+// The file of a plan at a version, into the first bytes of a buffer. Nothing else of it changes.
+pub fn put_plan(plan: Plan, version: u16, file: &mut [u8])
+    requires { ⌜ (plan .count ≤ mostPoints) × (length (fileOf version plan) ≤ length (now file)) ⌝ }
+    ensures { λ _. ⌜ now (file .exit) ≡ over (fileOf version plan) (now (file .entry)) ⌝ }
+{
+    put_header(version, plan.serial, area_length(plan) as u16, file);
+    let at = put_radius(plan.radius, file);
+    put_places(plan, at, file);
+}

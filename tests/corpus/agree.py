@@ -1,0 +1,71 @@
+#!/usr/bin/env python3
+"""Compares the built programs with a folder of plan files and expected answers.
+
+usage: agree.py CORPUS BIN    (BIN: target/bin after `rt check`)
+
+CORPUS holds plans/, listings/, loads.tsv, notes.tsv, writes.tsv. Prints a line for each file of answers and leaves with 1 where one differs.
+"""
+import struct
+import subprocess
+import sys
+from pathlib import Path
+
+MOST = 60000  # bytes of questions in one run, below the program's buffer
+
+
+def rows(path):
+    lines = path.read_text().splitlines()
+    names = lines[0].split("\t")
+    return [dict(zip(names, line.split("\t"))) for line in lines[1:]]
+
+
+def question(letter, number, room, file):
+    return struct.pack(">cIHH", letter, number, room, len(file)) + file
+
+
+def answers(program, questions):
+    """The program's lines, its questions handed over in as few runs as its buffer allows."""
+    lines, batch = [], b""
+    for q in questions + [None]:
+        if q is None or len(batch) + len(q) > MOST:
+            lines += subprocess.run([program], input=batch, stdout=subprocess.PIPE, check=True).stdout.decode().splitlines()
+            batch = b""
+        batch += q or b""
+    return lines
+
+
+def report(name, expected, got):
+    wrong = [i for i, (e, g) in enumerate(zip(expected, got)) if e != g]
+    print(f"{name}: {len(expected)} rows, {len(wrong) + abs(len(expected) - len(got))} differ")
+    for i in wrong[:3]:
+        print(f"  row {i + 1}: expected {expected[i][:120]}, got {got[i][:120]}")
+    return not wrong and len(expected) == len(got)
+
+
+def main():
+    corpus, programs = Path(sys.argv[1]), Path(sys.argv[2])
+    plans = {p.stem: p.read_bytes() for p in (corpus / "plans").glob("*.wpl")}
+    fit = lambda r: len(plans[r["file"]]) + 9 <= MOST
+    answer = programs / "answers"
+
+    loads = [r for r in rows(corpus / "loads.tsv") if fit(r)]
+    good = report("loads.tsv", [f"load refused {r['refusal']} at {r['place']}" for r in loads],
+                  answers(answer, [question(b"L", int(r["reader"]), 0, plans[r["file"]]) for r in loads]))
+
+    notes = [r for r in rows(corpus / "notes.tsv") if fit(r)]
+    part = lambda r: plans[r["file"]][int(r["offset"]):int(r["offset"]) + int(r["length"])].hex()
+    good &= report("notes.tsv", [f"note {part(r)}" for r in notes],
+                   answers(answer, [question(b"N", int(r["number"]), 0, plans[r["file"]]) for r in notes]))
+
+    writes = [r for r in rows(corpus / "writes.tsv") if fit(r)]
+    room = lambda r: r["hex"].lower().replace("-", "") + "aa" * (int(r["buffer"]) - int(r["length"]))
+    good &= report("writes.tsv", [f"write refused {r['refusal']} at {r['place']} length {r['length']} {room(r)}" for r in writes],
+                   answers(answer, [question(b"W", int(r["version"]), int(r["buffer"]), plans[r["file"]]) for r in writes]))
+
+    names = sorted(plans)
+    listed = [subprocess.run([programs / "listing"], input=plans[n], stdout=subprocess.PIPE, check=True).stdout for n in names]
+    good &= report("listings", [(corpus / "listings" / f"{n}.txt").read_text() for n in names], [x.decode() for x in listed])
+    sys.exit(0 if good else 1)
+
+
+main()
