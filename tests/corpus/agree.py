@@ -3,14 +3,18 @@
 
 usage: agree.py CORPUS BIN    (BIN: target/bin after `rt check`)
 
-CORPUS holds plans/, listings/, loads.tsv, notes.tsv, writes.tsv. Prints a line for each file of answers and leaves with 1 where one differs.
+CORPUS holds plans/, listings/, loads.tsv, notes.tsv, writes.tsv, flights.tsv. Prints a line for each file of answers and leaves with 1 where
+one differs. The flights are flown twice: as they stand, and with STRAYS fixes of no plan behind each fix, which change no state and make a
+flight longer than a chunk of the program.
 """
 import struct
 import subprocess
 import sys
+import tempfile
 from pathlib import Path
 
 MOST = 60000  # bytes of questions in one run, below the program's buffer
+STRAYS = 7
 
 
 def rows(path):
@@ -42,6 +46,49 @@ def report(name, expected, got):
     return not wrong and len(expected) == len(got)
 
 
+def flights(path):
+    """The rows of each flight: a new one starts where the fix number returns to 1."""
+    found = []
+    for r in rows(path):
+        if r["fix"] == "1":
+            found.append([])
+        found[-1].append(r)
+    return found
+
+
+def packed(serial, numbers):
+    return struct.pack(">I", serial) + bytes.fromhex("".join(numbers))
+
+
+def guided(r):
+    """What the line of a fix says between its number and its index."""
+    if r["refusal"] != "0":
+        return f"refused {r['refusal']} at {r['place']}"
+    numbers = [r[f"c{i}"].lower() for i in range(1, 7)]
+    if r["kind"] == "line":
+        return f"line {' '.join(numbers)} heading {r['heading']}"
+    return f"circle {' '.join(numbers[:4])} sense {r['sense']} heading {r['heading']}"
+
+
+def flight(rows, strays):
+    """The bytes of a flight's fixes and its lines, with so many fixes behind each that name no plan's serial, 0."""
+    fixes, said = b"", []
+    for r in rows:
+        fixes += packed(int(r["named"]), [r["n"], r["e"], r["d"]]) + packed(0, ["00000000"] * 3) * strays
+        after = f"index {r['index']} phase {r['phase']} finished {r['finished']}"
+        said += [f"{guided(r)} {after}"] + [f"refused 15 at 0 {after}"] * strays
+    return fixes, [f"fix {i} {text}" for i, text in enumerate(said, 1)]
+
+
+def flown(program, plan, reader, fixes):
+    """The program's lines on a plan and fixes in files of their own."""
+    with tempfile.TemporaryDirectory() as folder:
+        files = [Path(folder) / "plan.wpl", Path(folder) / "fixes.bin"]
+        for file, content in zip(files, [plan, fixes]):
+            file.write_bytes(content)
+        return subprocess.run([program, reader, *files], stdout=subprocess.PIPE, check=True).stdout.decode().splitlines()
+
+
 def main():
     corpus, programs = Path(sys.argv[1]), Path(sys.argv[2])
     plans = {p.stem: p.read_bytes() for p in (corpus / "plans").glob("*.wpl")}
@@ -65,6 +112,14 @@ def main():
     names = sorted(plans)
     listed = [subprocess.run([programs / "listing"], input=plans[n], stdout=subprocess.PIPE, check=True).stdout for n in names]
     good &= report("listings", [(corpus / "listings" / f"{n}.txt").read_text() for n in names], [x.decode() for x in listed])
+
+    for strays in [0, STRAYS]:
+        expected, got = [], []
+        for f in flights(corpus / "flights.tsv"):
+            fixes, lines = flight(f, strays)
+            expected += lines
+            got += flown(programs / "fly", plans[f[0]["file"]], f[0]["reader"], fixes)
+        good &= report(f"flights.tsv, {strays} strays", expected, got)
     sys.exit(0 if good else 1)
 
 

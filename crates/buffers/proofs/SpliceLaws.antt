@@ -55,3 +55,7 @@ pub joined : {A : Type 0} (at : ℕ) (first new old : List A) {now back : List A
     → back ≡ over new (take (length now - at) (drop at now))
     → take at now ++ (back ++ drop (length now - at) (drop at now)) ≡ over (first ++ new) old
 joined at first new old {now} {back} e f g = lent at new now back g ∙ ap (splice at new) f ∙ behind at first new old e
+
+-- from the front on
+pub at-front : {A : Type 0} (new old : List A) → splice 0 new old ≡ over new old
+at-front new old = let e : 0 + length new ≡ length new = omega arith in rw e

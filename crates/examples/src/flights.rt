@@ -3,18 +3,21 @@
 //      m u8 and m courses u16, index u16, phase u8, finished u8. Places that aren't listed are zero.
 //   F  a fix for the state before it: the named serial u32, then north, east and down as the bits of an f32.
 // A block starts below byte 66,000 and takes under 1,000 bytes; the contracts say so in order that no offset overflows.
-use crate::write;
-use crate::write_decimal;
-use crate::write_number;
+use console::float;
+use console::write;
+use console::write_decimal;
+use console::write_float;
+use console::write_number;
 use guidance::Command;
 use guidance::Metres;
 use libc::STDIN_FILENO;
-use libc::STDOUT_FILENO;
 use manager::Answer;
 use manager::State;
 use plan::Mode;
 use plan::Plan;
 use plane::Point;
+use records::u16_at;
+use records::u32_at;
 use units::Fix;
 ghost use Prim.Native.Nat.{_+_, _≤_};
 ghost use lib.ListN.{length};
@@ -40,37 +43,12 @@ fn byte_at(s: &[u8], i: usize) -> u8 {
     0
 }
 
-fn u16_at(s: &[u8], i: usize) -> u16 {
-    if s.len() <= i {
-        return 0;
-    }
-    (byte_at(s, i) as u16) * 256 + (byte_at(s, i + 1) as u16)
-}
-
-fn u32_at(s: &[u8], i: usize) -> u32 {
-    if s.len() <= i {
-        return 0;
-    }
-    (u16_at(s, i) as u32) * 65536 + (u16_at(s, i + 2) as u32)
-}
-
 // Two's complement.
 fn signed(bits: u32) -> i32 {
     if bits < 2147483648 {
         return bits as i32;
     }
     -1 - ((4294967295 - bits) as i32)
-}
-
-// The float of a pattern; from_bits leaves a NaN's out.
-fn float(bits: u32) -> f32 {
-    if bits % 2147483648 / 8388608 < 255 {
-        return f32::from_bits(bits);
-    }
-    if bits % 8388608 == 0 {
-        return f32::from_bits(bits);
-    }
-    0.0 / 0.0
 }
 
 fn point_at(s: &[u8], i: usize) -> Point
@@ -232,23 +210,12 @@ fn whole_block(s: &[u8], i: usize) -> usize
     0
 }
 
-fn write_bits(bits: u32) {
-    io::print_hex(STDOUT_FILENO, bits as u64, 8);
-}
-
-// The bits of a float; to_bits leaves a NaN out.
-fn write_float(x: f32) {
-    write(b" ");
-    if x == x {
-        write_bits(f32::to_bits(x));
-    } else {
-        write(b"7fc00000");
-    }
-}
-
 fn write_metres(m: Metres) {
+    write(b" ");
     write_float(m.north);
+    write(b" ");
     write_float(m.east);
+    write(b" ");
     write_float(m.down);
 }
 
@@ -266,6 +233,7 @@ fn write_command(command: Command) {
         } => {
             write(b" circle");
             write_metres(centre);
+            write(b" ");
             write_float(radius);
             write(b" sense ");
             write_number(sense as i64);

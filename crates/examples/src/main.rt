@@ -2,32 +2,19 @@
 mod flights;
 mod plans;
 
+use console::write;
+use console::write_decimal;
+use console::write_number;
 use course::Vector;
 use dubins::Ends;
 use dubins::Found;
 use fillets::Corner;
-use libc::STDOUT_FILENO;
 use plane::Point;
 use units::Fix;
 use units::Position;
 ghost use Prim.Native.Nat.{_<_};
 ghost use Rattle.course.specs.Vectors.{Near};
 ghost use Rattle.plane.specs.Area.{InArea};
-
-fn write(text: &[u8]) {
-    io::write_all(STDOUT_FILENO, text);
-}
-
-fn write_decimal(n: u64) {
-    io::print_decimal(STDOUT_FILENO, n);
-}
-
-fn write_number(x: i64) {
-    if x < 0 {
-        write(b"-");
-    }
-    write_decimal(integers::magnitude(x));
-}
 
 fn write_vector(v: Vector) {
     write(b"(");

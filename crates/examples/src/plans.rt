@@ -1,8 +1,8 @@
 // Document 01's checked examples of plans: which of them load, and what the others are refused with.
 use crate::point;
-use crate::write;
-use crate::write_decimal;
 use crate::write_vector;
+use console::write;
+use console::write_decimal;
 use plan::Mode;
 use plan::Plan;
 use plane::Point;

@@ -224,7 +224,7 @@ pub fn u32_at(s: &[u8], i: usize) -> u32
 }
 
 // Two's complement.
-fn signed(u: u32) -> i32
+pub fn signed(u: u32) -> i32
     ensures { λ r. ⌜ r ≡ toZ w32 u ⌝ }
 {
     if u < SIGN_BIT {

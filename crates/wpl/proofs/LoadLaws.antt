@@ -11,9 +11,9 @@ use lib.ListN.{length, getD, drop}
 use borrow.Author.Tests.{le-leb, lt-leb, lt-ltb, le-ltb, eq-eqb, ne-eqb, ltb-true, ltb-false, eqb-true}
 use Rattle.integers.proofs.ChooseLaws.{choose-false}
 use Rattle.order.specs.declared.Refusal.{Refusal}
-use Rattle.order.specs.Outcome.{Outcome, good, refused, check, andThen, refusalOf}
+use Rattle.order.specs.Outcome.{Outcome, good, refused, check, andThen, refusalOf, isGood}
 use Rattle.order.specs.Sweep.{Done, done, both}
-use Rattle.order.proofs.Bools.{by-bool, both-true, both-on, both-second, both-off, both-off-second}
+use Rattle.order.proofs.Bools.{by-bool, clash, both-true, both-on, both-second, both-off, both-off-second}
 use Rattle.order.proofs.OutcomeLaws.{Proper, proper-good, proper-check, proper-then, check-true, check-false, then-good, then-stops}
 use Rattle.order.proofs.SweepLaws.{good-is}
 use Rattle.plane.specs.Area.{InArea}
@@ -27,15 +27,17 @@ use Rattle.plan.specs.Loaded.{planOf}
 use Rattle.plan.proofs.LimitLaws.{zero-area}
 use Rattle.plan.proofs.PlaceLaws.{rules-padded}
 use Rattle.plan.proofs.RuleLaws.{rules-few, rules-many, rules-courses, rules-proper, rules-clean, rules-passed}
-use Rattle.manager.specs.State.{startOf}
+use Rattle.manager.specs.declared.State.{State}
+use Rattle.manager.specs.State.{emptyState, startOf}
 use Rattle.records.specs.Kinds.{newest, between, Parts, noParts}
 use Rattle.records.specs.Gather.{headerLength, gatherFrom, InRange}
 use Rattle.records.specs.declared.Gathered.{Gathered}
 use Rattle.records.specs.Held.{counted, heldOf, gatheredOf}
 use Rattle.records.specs.Walk.{walk}
 use Rattle.records.proofs.GatherLaws.{gather-ranged, none-ranged, gather-proper, gathered-good, gathered-refused}
+use Rattle.wpl.specs.declared.Loaded.{Loaded}
 use Rattle.wpl.specs.Header.{mostArea, markedOf, versionOf, serialOf, areaOf, areaFits, headerOf}
-use Rattle.wpl.specs.Load.{recordsOf, partsOf, settleOf, rulesIn, finishOf, bodyOf, loadOf}
+use Rattle.wpl.specs.Load.{recordsOf, partsOf, settleOf, rulesIn, finishOf, bodyOf, loadOf, loadedOf}
 
 -- ---- refusals 1 to 5
 module _ (f : List ℕ) (n : ℕ) (e : n ≡ areaOf f) where
@@ -278,3 +280,32 @@ module _ (r : ℕ) (f : List ℕ) (v : ℕ) (ev : v ≡ versionOf f) (g : Gather
         held = eg ∙ ap gatheredOf (x .1);
         are = sym parts-is ∙ x .1;
       }
+
+-- ---- what the answer of a load says of it
+module _ (r : ℕ) (f : List ℕ) (x : Loaded) (e : x ≡ loadedOf (loadOf r f)) where
+  refusal-by : (o : Outcome State) → loadedOf o .refusal ≡ refusalOf o .number
+  unfolding loadedOf refusalOf
+  refusal-by (good s) = refl
+  refusal-by (refused m p) = refl
+
+  pub loads-when : isGood (loadOf r f) ≡ eqb (x .refusal) 0
+  loads-when =
+      load-proper r f ∙ ap (λ (m : ℕ). eqb m 0) (sym (refusal-by (loadOf r f)) ∙ ap (λ (y : Loaded). y .refusal) (sym e))
+
+  good-by : (o : Outcome State) → isGood o ≡ true → o ≡ good (loadedOf o .state)
+  unfolding loadedOf isGood
+  good-by (good s) h = refl
+  good-by (refused m p) h = clash false h refl
+
+  refused-by : (o : Outcome State) → isGood o ≡ false → (o ≡ refused (loadedOf o .refusal) (loadedOf o .place)) × (loadedOf o .state ≡ emptyState)
+  unfolding loadedOf isGood
+  refused-by (good s) h = clash true refl h
+  refused-by (refused m p) h = (refl, refl)
+
+  pub loaded-good : x .refusal ≡ 0 → loadOf r f ≡ good (x .state)
+  loaded-good h = good-by (loadOf r f) (loads-when ∙ eq-eqb _ _ h) ∙ ap (λ (y : Loaded). good (y .state)) (sym e)
+
+  pub loaded-refused : (x .refusal ≡ 0 → ⊥) → (loadOf r f ≡ refused (x .refusal) (x .place)) × (x .state ≡ emptyState)
+  loaded-refused h =
+      let k = refused-by (loadOf r f) (loads-when ∙ ne-eqb _ _ h) in
+      (k .0 ∙ (λ i. refused (sym e i .refusal) (sym e i .place)), ap (λ (y : Loaded). y .state) e ∙ k .1)

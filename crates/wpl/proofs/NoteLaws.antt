@@ -1,15 +1,12 @@
 -- The search for a note, record by record, and the part of the file that it gives. Assumes nothing.
-use mathlib.Core.Path.{_≡_, refl, sym, ap, subst, _∙_}
+use mathlib.Core.Path.{_≡_, sym, ap, subst, _∙_}
 use mathlib.Core.Bool.{true, false}
 use mathlib.Core.List.{List, []}
 use Prim.Native.Nat.{ℕ, _+_, _-_, _≤_, _<_}
 use native.Mathlib.Nat.{add-sub-cancel-left}
-use lib.Dec.{eqb}
 use lib.ListN.{length, getD, take, drop}
 use borrow.Author.Tests.{eq-eqb, ne-eqb}
 use Rattle.integers.proofs.ChooseLaws.{choose-true, choose-false}
-use Rattle.order.specs.Outcome.{Outcome, good, refused, isGood, refusalOf}
-use Rattle.manager.specs.declared.State.{State}
 use Rattle.records.specs.Walk.{walk, more}
 use Rattle.records.specs.Kinds.{newest}
 use Rattle.records.specs.Gather.{endAt}
@@ -20,7 +17,7 @@ use Rattle.wpl.specs.declared.Span.{Span}
 use Rattle.wpl.specs.declared.Span.the-variants.{At, Nothing}
 use Rattle.wpl.specs.Load.{recordsOf, loadOf, loadedOf}
 use Rattle.wpl.specs.Note.{wantedOf, leftOf, noteIn, noteOf, Within, partOf}
-use Rattle.wpl.proofs.LoadLaws.{load-proper}
+use Rattle.wpl.proofs.LoadLaws.{loads-when}
 
 -- ---- the record at an offset
 module _ (f : List ℕ) (at n : ℕ) where
@@ -49,22 +46,13 @@ module _ (f : List ℕ) (at n : ℕ) where
 
 -- ---- a file that the newest reader refuses has no notes
 module _ (f : List ℕ) (n : ℕ) (x : Loaded) (e : x ≡ loadedOf (loadOf newest f)) where
-  refusal-by : (o : Outcome State) → loadedOf o .refusal ≡ refusalOf o .number
-  unfolding loadedOf refusalOf
-  refusal-by (good s) = refl
-  refusal-by (refused m p) = refl
-
-  loads : isGood (loadOf newest f) ≡ eqb (x .refusal) 0
-  loads =
-      load-proper newest f ∙ ap (λ (m : ℕ). eqb m 0) (sym (refusal-by (loadOf newest f)) ∙ ap (λ (y : Loaded). y .refusal) (sym e))
-
   pub note-refused : (x .refusal ≡ 0 → ⊥) → noteOf f n ≡ []
   unfolding noteOf
-  note-refused h = choose-false _ _ _ (loads ∙ ne-eqb _ _ h)
+  note-refused h = choose-false _ _ _ (loads-when newest f x e ∙ ne-eqb _ _ h)
 
   pub note-loaded : x .refusal ≡ 0 → noteOf f n ≡ noteIn n (recordsOf f)
   unfolding noteOf
-  note-loaded h = choose-true _ _ _ (loads ∙ eq-eqb _ _ h)
+  note-loaded h = choose-true _ _ _ (loads-when newest f x e ∙ eq-eqb _ _ h)
 
 -- ---- the part by what was found
 module _ (x : Span) (f : List ℕ) where

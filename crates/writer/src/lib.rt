@@ -50,7 +50,7 @@ const TWO_BYTES: u32 = 65536;
 const MINUS_ONE: u32 = 4294967295;
 
 // Two's complement.
-fn bits(z: i32) -> u32
+pub fn bits(z: i32) -> u32
     ensures { λ r. ⌜ r ≡ ofZ w32 z ⌝ }
 {
     if 0 <= z {

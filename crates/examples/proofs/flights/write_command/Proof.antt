@@ -32,14 +32,20 @@ write-requires-2 c κs = search needs
 write-metres-requires-3 : tie.Need-write-metres-requires-3
 write-metres-requires-3 c κs = search needs
 
-write-float-requires : tie.Need-write-float-requires
-write-float-requires c κs = search needs
-
 slice-aggregate-write-3 : tie.Need-slice-aggregate-write-3
 slice-aggregate-write-3 c = search needs
 
 write-requires-3 : tie.Need-write-requires-3
 write-requires-3 c κs = search needs
+
+write-float-requires : tie.Need-write-float-requires
+write-float-requires c κs = search needs
+
+slice-aggregate-write-4 : tie.Need-slice-aggregate-write-4
+slice-aggregate-write-4 c = search needs
+
+write-requires-4 : tie.Need-write-requires-4
+write-requires-4 c κs = search needs
 
 cast-write-number : tie.Need-cast-write-number
 cast-write-number c = search (overflow, typed) depth 20 fits 5000
@@ -50,11 +56,11 @@ write-number-requires c κs = search needs
 enum-told : tie.Need-enum-told
 enum-told c = search needs
 
-slice-aggregate-write-4 : tie.Need-slice-aggregate-write-4
-slice-aggregate-write-4 c = search needs
+slice-aggregate-write-5 : tie.Need-slice-aggregate-write-5
+slice-aggregate-write-5 c = search needs
 
-write-requires-4 : tie.Need-write-requires-4
-write-requires-4 c κs = search needs
+write-requires-5 : tie.Need-write-requires-5
+write-requires-5 c κs = search needs
 
 returns : tie.Need-returns
 returns c = search needs
@@ -78,14 +84,16 @@ write-command-spec =
     slice-aggregate-write-2
     write-requires-2
     write-metres-requires-3
-    write-float-requires
     slice-aggregate-write-3
     write-requires-3
+    write-float-requires
+    slice-aggregate-write-4
+    write-requires-4
     cast-write-number
     write-number-requires
     enum-told
-    slice-aggregate-write-4
-    write-requires-4
+    slice-aggregate-write-5
+    write-requires-5
     returns
     returns-2
     returns-3)

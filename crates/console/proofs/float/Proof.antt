@@ -1,8 +1,8 @@
 -- `float` makes a float of a pattern only where it is no NaN's. Assumes nothing.
 use borrow.Author.Needs.{needs}
-use Rattle.examples.proofs.NumberLaws.{low-field, no-digits}
-use Rattle.examples.proofs.flights.float.Statement.{statement}
-use Rattle.examples.proofs.flights.float.Tie as tie
+use Rattle.console.proofs.FloatLaws.{low-field, no-digits}
+use Rattle.console.proofs.float.Statement.{statement}
+use Rattle.console.proofs.float.Tie as tie
 
 float-from-bits-result : tie.Need-float-from-bits-result
 float-from-bits-result c = low-field _ (c .if1 .taken)

@@ -1,0 +1,114 @@
+-- A file marked later than version three, and the same with its unknown optional records cut out: version three's reader loads both or
+-- neither, to the same state. Assumes nothing.
+use mathlib.Core.Path.{_≡_, ap, _∙_}
+use mathlib.Core.Logic.{_↔_}
+use mathlib.Core.Bool.{true}
+use mathlib.Core.List.{List}
+use Prim.Native.Nat.{ℕ, _-_, _≤_}
+use native.Mathlib.Omega.{arith}
+use lib.Dec.{leb, ltb, eqb}
+use lib.ListN.{length, drop, length-drop}
+use borrow.Author.Tests.{ltb-true, leb-true, eqb-true}
+use Rattle.order.specs.Outcome.{good}
+use Rattle.order.specs.Sweep.{done}
+use Rattle.order.proofs.Bools.{both-first, both-second}
+use Rattle.order.proofs.OutcomeLaws.{check-means}
+use Rattle.manager.specs.declared.State.{State}
+use Rattle.records.specs.Walk.{Walked, walk, flat}
+use Rattle.records.specs.Kinds.{newest, Parts, noParts, sift}
+use Rattle.records.specs.Gather.{headerLength}
+use Rattle.records.proofs.WalkLaws.{flat-walk}
+use Rattle.records.proofs.CutLaws.{cut-out, sift-fills, sift-shorter}
+use Rattle.wpl.specs.Header.{mostArea, versionOf, serialOf, areaOf, areaFits, headerOf}
+use Rattle.wpl.specs.Load.{recordsOf, partsOf, settleOf}
+use Rattle.wpl.proofs.HeaderLaws.{header-good, header-version, header-serial, header-records}
+use Rattle.flight.specs.Demand.{IsCut, Loads, IsLater, cutOut}
+use Rattle.flight.proofs.LoadLaws.{load-steps, steps-load}
+
+-- ---- what refusals 4 and 5 say of a header that they pass
+module _ (f : List ℕ) (passed : headerOf f ≡ good done) where
+  last-tests : (ltb 0 (serialOf f) ≡ true) × (areaFits f ≡ true)
+  unfolding headerOf
+  last-tests =
+      let a = check-means _ 1 _ done passed in
+      let b = check-means _ 2 _ done (a .1) in
+      let c = check-means _ 3 _ done (b .1) in
+      let d = check-means _ 4 _ done (c .1) in
+      (d .0, check-means _ 5 _ done (d .1) .0)
+
+  serial-some : serialOf f ≡ 0 → ⊥
+  serial-some e = omega (arith, ltb-true 0 (serialOf f) (last-tests .0))
+
+  area-most : length (drop headerLength f) ≤ mostArea
+  unfolding areaFits
+  area-most =
+      let a = both-first (eqb (areaOf f) (length f - headerLength)) (leb (areaOf f) mostArea) (last-tests .1) in
+      let b = both-second (eqb (areaOf f) (length f - headerLength)) (leb (areaOf f) mostArea) (last-tests .1) in
+      omega (arith, length-drop headerLength f, eqb-true (areaOf f) (length f - headerLength) a, leb-true (areaOf f) mostArea b)
+
+-- ---- the cut file: version three, the same serial, the records that are left, and a header that passes
+module _ (f : List ℕ) (later : IsLater f) where
+  cut-version : versionOf (cutOut f) ≡ newest
+  unfolding cutOut
+  cut-version = header-version _ _ _
+
+  cut-serial : serialOf (cutOut f) ≡ serialOf f
+  unfolding cutOut
+  cut-serial = header-serial _ _ _
+
+  cut-records : recordsOf (cutOut f) ≡ sift (recordsOf f)
+  unfolding cutOut
+  cut-records = header-records _ _ _ (sift-fills (recordsOf f) ∙ later .records)
+
+  cut-short : length (flat (sift (recordsOf f))) ≤ mostArea
+  unfolding recordsOf
+  cut-short =
+      let whole = ap length (flat-walk (drop headerLength f) (later .records)) in
+      omega (arith, sift-shorter (walk (drop headerLength f)), whole, area-most f (later .header))
+
+  cut-header : headerOf (cutOut f) ≡ good done
+  unfolding cutOut
+  cut-header = let one : 1 ≤ newest = omega arith in header-good _ _ _ one (serial-some f (later .header)) cut-short
+
+  pub is-cut : IsCut f (cutOut f)
+  is-cut = record { version = cut-version; serial = cut-serial; header = cut-header; records = cut-records }
+
+  -- ---- what its records give
+  cut-parts : (a : Parts) → (partsOf newest f ≡ good a) ↔ (partsOf newest (cutOut f) ≡ good a)
+  unfolding partsOf
+  cut-parts a = rw (cut-version, cut-records) (cut-out (versionOf f) (later .version) (recordsOf f) headerLength headerLength noParts a)
+
+-- what the whole walk decides does not hang on records that are skipped
+settled-alike : (w : Walked) (a b : Parts) → (settleOf w a ≡ good b) ↔ (settleOf (sift w) a ≡ good b)
+unfolding settleOf
+settled-alike w a b = (λ e. e, λ e. e)
+
+-- ---- the loads
+module _ (f : List ℕ) (later : IsLater f) (s : State) where
+  pub cut-loads : Loads 3 f s → Loads 3 (cutOut f) s
+  cut-loads h =
+      let x = load-steps newest f s h in
+      steps-load newest (cutOut f) s
+      (record {
+        served = x .served;
+        header = cut-header f later;
+        taken = x .taken;
+        gathered = cut-parts f later (x .taken) .0 (x .gathered);
+        settled = x .settled;
+        settles = rw (cut-records f later) (settled-alike (recordsOf f) (x .taken) (x .settled) .0 (x .settles));
+        finishes = rw (cut-serial f later) (x .finishes);
+      })
+
+  pub uncut-loads : Loads 3 (cutOut f) s → Loads 3 f s
+  uncut-loads h =
+      let x = load-steps newest (cutOut f) s h in
+      steps-load newest f s
+      (record {
+        served = x .served;
+        header = later .header;
+        taken = x .taken;
+        gathered = cut-parts f later (x .taken) .1 (x .gathered);
+        settled = x .settled;
+        settles = settled-alike (recordsOf f) (x .taken) (x .settled) .1 (rw (cut-records f later) at (x .settles));
+        finishes = rw (cut-serial f later) at (x .finishes);
+      })

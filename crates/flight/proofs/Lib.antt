@@ -1,0 +1,8 @@
+pub mod RunLaws
+pub mod LoadLaws
+pub mod OlderLaws
+pub mod LaterLaws
+pub mod DemandLaws
+pub mod ListLaws
+pub mod FlightLaws
+pub mod TwoFlightsLaws

@@ -1,0 +1,4 @@
+pub mod Run
+pub mod Demand
+pub mod Flight
+pub mod TwoFlights

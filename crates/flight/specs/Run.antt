@@ -1,0 +1,43 @@
+-- A run over a list of fixes: "the first fix gets the loaded state, any other what the fix before it returned, and nothing else changes it".
+-- Assumes nothing.
+use mathlib.Core.Path.{_≡_}
+use mathlib.Core.List.{List, [], _∷_}
+use Prim.Native.Nat.{ℕ}
+use Rattle.units.specs.declared.Fix.{Fix}
+use Rattle.manager.specs.declared.State.{State}
+use Rattle.manager.specs.declared.Stepped.{Stepped}
+use Rattle.manager.specs.Step.{stepOf}
+
+-- a fix and the serial that it names
+pub record Named : Type 0 where
+  pub serial : ℕ
+  pub fix : Fix
+
+abbrev pub stepBy : State → Named → Stepped
+stepBy s x = stepOf s (x .serial) (x .fix)
+
+-- what each fix of a list answers, with the state that it returns
+unfoldable pub run : State → List Named → List Stepped
+run s [] = []
+run s (x ∷ xs) = stepBy s x ∷ run (stepBy s x .state) xs
+
+-- the same said of any list of answers: a chain from a state
+pub data Chain : State → List Named → List Stepped → Type 0 where
+  none : (s : State) → Chain s [] []
+  next : (s : State) (x : Named) (xs : List Named) (os : List Stepped) → Chain (stepBy s x .state) xs os → Chain s (x ∷ xs) (stepBy s x ∷ os)
+
+-- "alike at each fix in refusal, place, command, heading, index, phase, finished and state returned"
+pub record Alike (a b : Stepped) : Type 0 where
+  pub refusal : a .answer .refusal ≡ b .answer .refusal
+  pub place : a .answer .place ≡ b .answer .place
+  pub command : a .answer .command ≡ b .answer .command
+  pub heading : a .answer .heading ≡ b .answer .heading
+  pub index : a .answer .index ≡ b .answer .index
+  pub phase : a .answer .phase ≡ b .answer .phase
+  pub finished : a .answer .finished ≡ b .answer .finished
+  pub state : a .state ≡ b .state
+
+-- two runs, fix by fix, and equally many
+pub data AlikeRuns : List Stepped → List Stepped → Type 0 where
+  ended : AlikeRuns [] []
+  onward : (a b : Stepped) (xs ys : List Stepped) → Alike a b → AlikeRuns xs ys → AlikeRuns (a ∷ xs) (b ∷ ys)
