@@ -1,0 +1,4 @@
+pub mod ListedLaws
+pub mod HoldsLaws
+pub mod PutLaws
+pub mod StoredLaws

@@ -1,0 +1,41 @@
+-- `put_point` puts the three words of a point. Assumes nothing.
+use mathlib.Core.Path.{_≡_, ap, _∙_}
+use mir.Syntax.{w32}
+use mir.Val.{toZ, ofZ}
+use borrow.Author.Needs.{needs}
+use Rattle.states.specs.Stored.{pointWords}
+use Rattle.states.proofs.put_point.Statement.{statement}
+use Rattle.states.proofs.put_point.Tie as tie
+
+bits-requires : tie.Need-bits-requires
+bits-requires c κs = search needs
+
+bits-requires-2 : tie.Need-bits-requires-2
+bits-requires-2 c κs = search needs
+
+bits-requires-3 : tie.Need-bits-requires-3
+bits-requires-3 c κs = search needs
+
+put-three-requires : tie.Need-put-three-requires
+put-three-requires c κs = search needs
+
+same-length : tie.Need-same-length
+same-length c = search needs
+
+returns : tie.Need-returns
+unfolding pointWords
+returns c =
+    let p = c .before .before in
+    let d = p .before .before in
+    let e = d .before .before in
+    let n = e .before .before in
+    let a = n .before .before .before .args .point in
+    let kn : toZ w32 (ofZ w32 (a .north)) ≡ a .north = search needs in
+    let ke : toZ w32 (ofZ w32 (a .east)) ≡ a .east = search needs in
+    let kd : toZ w32 (ofZ w32 (a .down)) ≡ a .down = search needs in
+    rw (n .bits .ensures ∙ ap (ofZ w32) kn, e .bits2 .ensures ∙ ap (ofZ w32) ke, d .bits3 .ensures ∙ ap (ofZ w32) kd) at (p .put-three .ensures)
+
+pub put-point-spec : {M : Type 1} → statement M
+put-point-spec =
+    tie.close
+    (tie.spec bits-requires bits-requires-2 bits-requires-3 put-three-requires same-length returns)

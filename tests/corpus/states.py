@@ -1,0 +1,71 @@
+#!/usr/bin/env python3
+"""Compares the autopilot's C interface with a folder of states and expected answers.
+
+usage: states.py CORPUS ARCHIVE    (ARCHIVE: target/staticlib/libautopilot.a, from `rt staticlib autopilot`)
+
+CORPUS holds states.tsv: 4,000 states, most of them broken, each with a fix and a write. Leaves with 1 where an answer differs.
+"""
+import ctypes
+import struct
+import subprocess
+import sys
+import tempfile
+from pathlib import Path
+
+STATE, POINTS, COURSES = 263, 7, 199
+KINDS = {"none": 0, "line": 1, "circle": 2}
+
+
+def words_of(row):
+    """The state's words; None where a number does not fit a word."""
+    numbers = [int(row[k]) for k in ("serial", "mode", "radius", "count", "index", "phase", "finished")]
+    words = numbers + [0] * (STATE - len(numbers))
+    for i, point in enumerate(p for p in row["points"].split(";") if p not in ("", "-")):
+        for j, part in enumerate(point.split(",")):
+            words[POINTS + 3 * i + j] = int(part) & 0xFFFFFFFF
+    for i, course in enumerate(c for c in row["courses"].split(";") if c not in ("", "-")):
+        words[COURSES + i] = int(course)
+    return words if all(0 <= w < 1 << 32 for w in words) else None
+
+
+def fixed(library, row, words):
+    """What the fix answers, in the file's columns, and the words afterwards."""
+    state, answer, command = (ctypes.c_uint32 * STATE)(*words), (ctypes.c_uint32 * 8)(), (ctypes.c_float * 6)()
+    place = [struct.unpack(">f", bytes.fromhex(row[k]))[0] for k in "ned"]
+    library.farnkuppel_fix(state, STATE, ctypes.c_uint32(int(row["named"])), *map(ctypes.c_float, place), answer, 8, command, 6)
+    a = list(answer)
+    numbers = [struct.pack("<f", x)[::-1].hex().upper() for x in command]
+    return [a[0], a[1], a[2], *numbers, a[3], *a[4:]], list(state)
+
+
+def wanted(row):
+    sense = int(row["a_sense"]) & 0xFFFFFFFF
+    numbers = [row[f"a_c{i}"].upper() for i in range(1, 7)]
+    rest = [int(row[k]) for k in ("a_heading", "a_index", "a_phase", "a_finished")]
+    return [int(row["a_refusal"]), int(row["a_place"]), KINDS[row["a_kind"]], *numbers, sense, *rest]
+
+
+def wrote(library, row, words):
+    room = int(row["w_buffer"])
+    state, answer, file = (ctypes.c_uint32 * STATE)(*words), (ctypes.c_uint32 * 3)(), (ctypes.c_uint8 * max(room, 1))()
+    library.farnkuppel_write(state, STATE, ctypes.c_uint32(int(row["w_version"])), file, ctypes.c_size_t(room), answer, 3)
+    return list(answer)
+
+
+def main():
+    corpus, archive = Path(sys.argv[1]), sys.argv[2]
+    with tempfile.TemporaryDirectory() as folder:
+        shared = f"{folder}/autopilot.so"
+        subprocess.run(["cc", "-shared", "-o", shared, "-Wl,--whole-archive", archive, "-Wl,--no-whole-archive"], check=True)
+        library = ctypes.CDLL(shared)
+    lines = (corpus / "states.tsv").read_text().splitlines()
+    rows = [dict(zip(lines[0].split("\t"), line.split("\t"))) for line in lines[1:]]
+    stored = [(row, words) for row in rows for words in [words_of(row)] if words]
+    fixes = sum(1 for row, words in stored if fixed(library, row, words)[0] != wanted(row))
+    kept = sum(1 for row, words in stored if row["a_refusal"] != "0" and fixed(library, row, words)[1] != words)
+    writes = sum(1 for row, words in stored if wrote(library, row, words) != [int(row[k]) for k in ("w_refusal", "w_place", "w_length")])
+    print(f"states.tsv: {len(stored)} of {len(rows)} rows fit words; {fixes} fixes differ, {kept} refused fixes change words, {writes} writes differ")
+    sys.exit(1 if fixes or kept or writes else 0)
+
+
+main()
