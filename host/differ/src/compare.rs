@@ -1,0 +1,178 @@
+//! Each call made twice, by the reference and by the compiled manager, and every word compared.
+
+use crate::compiled::{self, ANSWER_WORDS, COMMAND_NUMBERS, LOAD_WORDS, TOO_SHORT, WRITE_WORDS};
+use crate::words::{self, hex_of_bytes, hex_of_words, Words, STATE_WORDS};
+use reference::{load, write, State};
+
+/// What lent memory holds before a call, so that a word too few or too many shows.
+const PATTERN: u32 = 0xA5A5_A5A5;
+const BYTE_PATTERN: u8 = 0x5A;
+/// So much more is lent than needed, and must stay as it was.
+const SPARE: usize = 3;
+
+/// What the runs counted.
+#[derive(Default)]
+pub struct Tally {
+    pub loads: u64,
+    pub fixes: u64,
+    pub writes: u64,
+    pub disagreements: u64,
+    pub load_refusals: [u64; 18],
+    pub fix_refusals: [u64; 18],
+    pub write_refusals: [u64; 18],
+    /// Sound fixes by mode and phase, then those that changed the place.
+    pub phases: [[u64; 6]; 3],
+    pub steps: u64,
+}
+
+/// Seed and number of the case at hand.
+#[derive(Clone, Copy)]
+pub struct Case {
+    pub part: &'static str,
+    pub seed: u64,
+    pub number: u64,
+}
+
+impl Tally {
+    fn disagree(&mut self, case: Case, what: String) {
+        self.disagreements += 1;
+        println!("disagree {} seed {} number {} {}", case.part, case.seed, case.number, what);
+    }
+
+    pub fn compare_load(&mut self, case: Case, file: &[u8], reader: u32) {
+        let expected = load(file, reader);
+        let (number, place) = expected.map_or_else(|r| (r.number, r.place), |_| (0, 0));
+        let mut state_wanted = [PATTERN; STATE_WORDS + SPARE];
+        state_wanted[..STATE_WORDS].copy_from_slice(&words::of_state(&expected.unwrap_or(State::EMPTY)));
+        let answer_wanted = [number, place, PATTERN];
+        let mut state = [PATTERN; STATE_WORDS + SPARE];
+        let mut answer = [PATTERN; LOAD_WORDS + 1];
+        let result = compiled::load(file, reader, &mut state, &mut answer);
+        let desk = compiled::refusal(file, reader);
+        self.loads += 1;
+        self.load_refusals[number as usize] += 1;
+        if (result, desk, answer, state) != (number, number, answer_wanted, state_wanted) {
+            let file = hex_of_bytes(file);
+            let differing = first_difference(&state, &state_wanted);
+            self.disagree(
+                case,
+                format!(
+                    "reader {reader} reference {number} at {place} compiled {result} {answer:?} desk {desk} \
+                     state {differing} file {file}"
+                ),
+            );
+        }
+    }
+
+    /// Compares one fix and leaves the next state in the words.
+    pub fn compare_fix(&mut self, case: Case, state: &mut Words, named: u32, fix: [f32; 3]) {
+        let before = *state;
+        let mut after = before;
+        let (answer_wanted, command_wanted) = match words::to_state(&before) {
+            Some(mut held) => {
+                let answer = held.fix(named, fix);
+                after = words::of_state(&held);
+                words::of_answer(&answer)
+            }
+            None => words::of_no_state(&before),
+        };
+        let mut lent = [PATTERN; STATE_WORDS + SPARE];
+        lent[..STATE_WORDS].copy_from_slice(&before);
+        let mut answer = [PATTERN; ANSWER_WORDS + 1];
+        let mut command = [f32::from_bits(PATTERN); COMMAND_NUMBERS + 1];
+        let result = compiled::fix(&mut lent, named, fix, &mut answer, &mut command);
+        self.count_fix(&before, &after, answer_wanted[0]);
+        let bits = command.map(f32::to_bits);
+        let agrees = result == answer_wanted[0]
+            && answer[..ANSWER_WORDS] == answer_wanted
+            && bits[..COMMAND_NUMBERS] == command_wanted.map(f32::to_bits)
+            && lent[..STATE_WORDS] == after
+            && lent[STATE_WORDS..] == [PATTERN; SPARE]
+            && (answer[ANSWER_WORDS], bits[COMMAND_NUMBERS]) == (PATTERN, PATTERN);
+        if !agrees {
+            let differing = first_difference(&lent, &after);
+            let wanted = hex_of_words(&command_wanted.map(f32::to_bits));
+            let (fix, got, held) = (hex_of_words(&fix.map(f32::to_bits)), hex_of_words(&bits), hex_of_words(&before));
+            self.disagree(
+                case,
+                format!(
+                    "named {named} fix {fix} reference {answer_wanted:?} {wanted} compiled {result} {answer:?} {got} \
+                     state {differing} before {held}"
+                ),
+            );
+        }
+        *state = after;
+    }
+
+    fn count_fix(&mut self, before: &Words, after: &Words, refusal: u32) {
+        self.fixes += 1;
+        self.fix_refusals[refusal as usize] += 1;
+        if refusal == 0 {
+            self.phases[before[words::MODE] as usize][before[words::PHASE] as usize] += 1;
+            self.steps += u64::from(before != after);
+        }
+    }
+
+    pub fn compare_write(&mut self, case: Case, state: &Words, version: u32, room: usize) {
+        let expected = match words::to_state(state) {
+            Some(held) => write(&held, version, room).map_err(|r| (r.number, r.place)),
+            None => Err((14, 0)),
+        };
+        let mut file_wanted = vec![BYTE_PATTERN; room];
+        let (number, place, length) = match &expected {
+            Ok(file) => (0, 0, file.len()),
+            Err((number, place)) => (*number, *place, 0),
+        };
+        file_wanted[..length].copy_from_slice(expected.as_deref().unwrap_or(&[]));
+        let answer_wanted = [number, place, length as u32, PATTERN];
+        let mut file = vec![BYTE_PATTERN; room];
+        let mut answer = [PATTERN; WRITE_WORDS + 1];
+        let result = compiled::write(state, version, &mut file, &mut answer);
+        self.writes += 1;
+        self.write_refusals[number as usize] += 1;
+        if (result, answer) != (number, answer_wanted) || file != file_wanted {
+            let (got, held) = (hex_of_bytes(&file), hex_of_words(state));
+            self.disagree(
+                case,
+                format!(
+                    "version {version} room {room} reference {answer_wanted:?} compiled {result} {answer:?} \
+                     state {held} file {got}"
+                ),
+            );
+        }
+    }
+
+    /// Every call with one lent slice a word or more too short: refused, and nothing written.
+    pub fn compare_short_slices(&mut self, case: Case, state: &Words, file: &[u8], cut: usize) {
+        let mut lent = *state;
+        let mut answer = [PATTERN; ANSWER_WORDS];
+        let mut command = [f32::from_bits(PATTERN); COMMAND_NUMBERS];
+        let mut room = [BYTE_PATTERN; 1200];
+        let less = |length: usize| length.saturating_sub(cut);
+        let results = [
+            compiled::load(file, 3, &mut lent[..less(STATE_WORDS)], &mut answer),
+            compiled::load(file, 3, &mut lent, &mut answer[..less(LOAD_WORDS)]),
+            compiled::fix(&mut lent[..less(STATE_WORDS)], state[0], [0.0; 3], &mut answer, &mut command),
+            compiled::fix(&mut lent, state[0], [0.0; 3], &mut answer[..less(ANSWER_WORDS)], &mut command),
+            compiled::fix(&mut lent, state[0], [0.0; 3], &mut answer, &mut command[..less(COMMAND_NUMBERS)]),
+            compiled::write(&lent[..less(STATE_WORDS)], 3, &mut room, &mut answer),
+            compiled::write(&lent, 3, &mut room, &mut answer[..less(WRITE_WORDS)]),
+        ];
+        let untouched = lent == *state
+            && answer == [PATTERN; ANSWER_WORDS]
+            && command.map(f32::to_bits) == [PATTERN; COMMAND_NUMBERS]
+            && room == [BYTE_PATTERN; 1200];
+        if results != [TOO_SHORT; 7] || !untouched {
+            let (file, held) = (hex_of_bytes(file), hex_of_words(state));
+            self.disagree(case, format!("short by {cut} results {results:?} untouched {untouched} file {file} state {held}"));
+        }
+    }
+}
+
+/// The first word that differs, as place, compiled, reference.
+fn first_difference(got: &[u32], wanted: &[u32]) -> String {
+    match got.iter().zip(wanted).position(|(g, w)| g != w) {
+        Some(at) => format!("word {at} {:08X} for {:08X}", got[at], wanted[at]),
+        None => "equal".into(),
+    }
+}

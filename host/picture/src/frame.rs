@@ -1,0 +1,121 @@
+//! The map's frame: where a place in metres stands on the picture.
+use crate::flown::Circle;
+use crate::listing::Place;
+
+/// The picture's size and the frame's sides, in pixels.
+pub const WIDTH: f64 = 900.0;
+pub const HEIGHT: f64 = 700.0;
+pub const LEFT: f64 = 64.0;
+pub const RIGHT: f64 = 724.0;
+pub const TOP: f64 = 48.0;
+pub const BOTTOM: f64 = 660.0;
+
+/// What is left free between the frame and what is drawn in it.
+const MARGIN: f64 = 28.0;
+
+/// The smallest extent that is drawn, in metres.
+const LEAST: f64 = 10.0;
+
+/// The part of the map that has to be seen, in metres.
+pub struct Extent {
+    low: Place,
+    high: Place,
+}
+
+impl Extent {
+    pub fn around(place: Place) -> Extent {
+        Extent {
+            low: place,
+            high: place,
+        }
+    }
+
+    pub fn include(&mut self, place: Place) {
+        self.low = Place {
+            north: self.low.north.min(place.north),
+            east: self.low.east.min(place.east),
+        };
+        self.high = Place {
+            north: self.high.north.max(place.north),
+            east: self.high.east.max(place.east),
+        };
+    }
+
+    pub fn include_circle(&mut self, circle: &Circle) {
+        for by in [-circle.radius, circle.radius] {
+            self.include(Place {
+                north: circle.centre.north + by,
+                east: circle.centre.east + by,
+            });
+        }
+    }
+}
+
+/// The middle of the map and its scale in pixels a metre, the same in both directions.
+pub struct Frame {
+    middle: Place,
+    pub scale: f64,
+}
+
+impl Frame {
+    pub fn of(extent: &Extent) -> Frame {
+        let (low, high) = (extent.low, extent.high);
+        let wide = (RIGHT - LEFT - 2.0 * MARGIN) / (high.east - low.east).max(LEAST);
+        let tall = (BOTTOM - TOP - 2.0 * MARGIN) / (high.north - low.north).max(LEAST);
+        let middle = Place {
+            north: (low.north + high.north) / 2.0,
+            east: (low.east + high.east) / 2.0,
+        };
+        Frame {
+            middle,
+            scale: wide.min(tall),
+        }
+    }
+
+    /// Pixels from the left of the picture.
+    pub fn x(&self, east: f64) -> f64 {
+        (LEFT + RIGHT) / 2.0 + (east - self.middle.east) * self.scale
+    }
+
+    /// Pixels from the top of the picture.
+    pub fn y(&self, north: f64) -> f64 {
+        (TOP + BOTTOM) / 2.0 - (north - self.middle.north) * self.scale
+    }
+
+    /// The pixels between two places.
+    pub fn pixels(&self, one: Place, other: Place) -> f64 {
+        (one.north - other.north).hypot(one.east - other.east) * self.scale
+    }
+
+    /// Whether a place is a number and stands in the frame.
+    pub fn shows(&self, place: Place) -> bool {
+        (LEFT..=RIGHT).contains(&self.x(place.east))
+            && (TOP..=BOTTOM).contains(&self.y(place.north))
+    }
+
+    /// The numbers in metres at which grid lines along one direction stand: multiples of a step from one end of the frame to the other.
+    fn grid(&self, middle: f64, half: f64, step: f64) -> Vec<f64> {
+        let first = ((middle - half / self.scale) / step).ceil();
+        let last = ((middle + half / self.scale) / step).floor();
+        let count = (last - first + 1.0).max(0.0) as usize;
+        (0..count).map(|i| (first + i as f64) * step).collect()
+    }
+
+    pub fn grid_easts(&self, step: f64) -> Vec<f64> {
+        self.grid(self.middle.east, (RIGHT - LEFT) / 2.0, step)
+    }
+
+    pub fn grid_norths(&self, step: f64) -> Vec<f64> {
+        self.grid(self.middle.north, (BOTTOM - TOP) / 2.0, step)
+    }
+
+    /// The least of 1, 2 and 5 times a power of ten metres that is at least so many pixels.
+    pub fn round_step(&self, pixels: f64) -> f64 {
+        let least = pixels / self.scale;
+        let power = 10f64.powf(least.log10().floor());
+        let fits = [1.0, 2.0, 5.0]
+            .into_iter()
+            .find(|digit| digit * power >= least);
+        fits.unwrap_or(10.0) * power
+    }
+}

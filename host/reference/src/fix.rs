@@ -1,0 +1,196 @@
+//! One position fix: the command of the place before it, and at most one step.
+
+use crate::course::{direction, dot, less, Level, SCALE};
+use crate::heading::{circle_heading, line_heading};
+use crate::state::{Mode, State};
+use crate::{dubins, fillets, lines, Refusal};
+
+#[derive(Clone, Copy, Debug, PartialEq)]
+pub enum Command {
+    None,
+    Line { start: [f32; 3], direction: [f32; 3] },
+    Circle { centre: [f32; 3], radius: f32, sense: i32 },
+}
+
+#[derive(Clone, Copy, Debug, PartialEq)]
+pub struct Answer {
+    pub refusal: Option<Refusal>,
+    pub command: Command,
+    pub heading: u32,
+    pub index: u32,
+    pub phase: u32,
+    pub finished: bool,
+}
+
+/// The farthest a fix may be, in metres.
+const REACH: [f64; 3] = [50_000.0, 50_000.0, 10_000.0];
+
+impl State {
+    pub fn fix(&mut self, named: u32, fix: [f32; 3]) -> Answer {
+        if !self.is_sound() {
+            return self.refused(14);
+        }
+        if named != self.serial {
+            return self.refused(15);
+        }
+        let Some(p) = position(fix) else {
+            return self.refused(13);
+        };
+        let (command, heading, passed) = match self.mode {
+            Mode::Lines => self.lines_fix(p),
+            Mode::Fillets => self.fillets_fix((p[0], p[1])),
+            Mode::Dubins => self.dubins_fix((p[0], p[1])),
+        };
+        if passed {
+            self.step();
+        }
+        Answer { refusal: None, command, heading, index: self.index, phase: self.phase, finished: self.finished }
+    }
+
+    fn refused(&self, number: u32) -> Answer {
+        Answer {
+            refusal: Some(Refusal::plain(number)),
+            command: Command::None,
+            heading: 0,
+            index: self.index,
+            phase: self.phase,
+            finished: self.finished,
+        }
+    }
+
+    /// The next phase, or the first phase of the next index; at the last place the flight is finished and stays there.
+    fn step(&mut self) {
+        let (last_index, last_phase) = self.last_place();
+        if self.phase < last_phase {
+            self.phase += 1;
+        } else if self.index < last_index {
+            self.index += 1;
+            self.phase = 1;
+        } else {
+            self.finished = true;
+        }
+    }
+
+    fn lines_fix(&self, p: [i64; 3]) -> (Command, u32, bool) {
+        let i = self.index as usize;
+        let point = self.point(i);
+        let d = [p[0] - point[0], p[1] - point[1], p[2] - point[2]];
+        let passed = lines::half_plane_met(d, self.leg(i), self.leg(i + 1));
+        let (command, heading) = self.leg_line((p[0], p[1]));
+        (command, heading, passed)
+    }
+
+    /// The line along the leg to the point of the index.
+    fn leg_line(&self, p: Level) -> (Command, u32) {
+        let i = self.index as usize;
+        let command = Command::Line { start: metres(self.point(i - 1)), direction: metres(self.leg(i)) };
+        (command, line_heading(self.level_point(i - 1), self.level_leg(i), p))
+    }
+
+    fn circle(&self, centre: Level, down_of: usize, sense: i64, p: Level) -> (Command, u32) {
+        let radius = i64::from(self.radius);
+        let down = self.point(down_of)[2];
+        let command =
+            Command::Circle { centre: metres([centre.0, centre.1, down]), radius: metre(radius), sense: sense as i32 };
+        (command, circle_heading(centre, radius, sense, p))
+    }
+
+    fn fillets_fix(&self, p: Level) -> (Command, u32, bool) {
+        let i = self.index as usize;
+        let fillet = fillets::fillet_at(self, i);
+        if self.phase == 1 {
+            let (command, heading) = self.leg_line(p);
+            (command, heading, dot(less(p, fillet.z1), self.level_leg(i)) >= 0)
+        } else {
+            let (command, heading) = self.circle(fillet.centre, i, fillet.sense, p);
+            (command, heading, dot(less(p, fillet.z2), self.level_leg(i + 1)) >= 0)
+        }
+    }
+
+    fn dubins_fix(&self, p: Level) -> (Command, u32, bool) {
+        let i = self.index as usize;
+        let path = dubins::shortest(self, i).expect("a sound state has a case for every leg");
+        let q = direction(path.theta);
+        let past_z1 = dot(less(p, path.z1), q);
+        let past_z2 = dot(less(p, path.z2), q);
+        let past_end = dot(less(p, self.level_point(i)), direction(self.course(i)));
+        let passed = match self.phase {
+            1 => past_z1 <= 0,
+            2 => past_z1 >= 0,
+            3 => past_z2 >= 0,
+            4 => past_end <= 0,
+            _ => past_end >= 0,
+        };
+        let (command, heading) = match self.phase {
+            1 | 2 => self.circle(path.start_centre, i - 1, path.start_sense, p),
+            3 => self.straight_part(&path, q, p),
+            _ => self.circle(path.end_centre, i, path.end_sense, p),
+        };
+        (command, heading, passed)
+    }
+
+    fn straight_part(&self, path: &dubins::Path, q: Level, p: Level) -> (Command, u32) {
+        let down = self.point(self.index as usize - 1)[2];
+        let command = Command::Line {
+            start: metres([path.z1.0, path.z1.1, down]),
+            direction: [q.0 as f32 / SCALE as f32, q.1 as f32 / SCALE as f32, 0.0],
+        };
+        (command, line_heading(path.z1, q, p))
+    }
+}
+
+/// A fix in decimetres, or none where it is no number or too far.
+pub fn position(fix: [f32; 3]) -> Option<[i64; 3]> {
+    let mut p = [0; 3];
+    for k in 0..3 {
+        let exact = f64::from(fix[k]);
+        // NaN fails this too.
+        if !(exact.abs() <= REACH[k]) {
+            return None;
+        }
+        // A 24-bit number times ten is exact in f64, and round takes halves away from zero.
+        p[k] = (exact * 10.0).round() as i64;
+    }
+    Some(p)
+}
+
+fn metres(v: [i64; 3]) -> [f32; 3] {
+    v.map(metre)
+}
+
+/// The whole number is under 2^24, so only the division rounds.
+fn metre(x: i64) -> f32 {
+    x as f32 / 10.0
+}
+
+#[cfg(test)]
+mod tests {
+    use super::*;
+
+    #[test]
+    fn fixes_of_the_document() {
+        assert_eq!(position([0.25, -0.25, 0.04]), Some([3, -3, 0]));
+        assert_eq!(position([50_000.0, -50_000.0, 10_000.0]), Some([500_000, -500_000, 100_000]));
+        assert_eq!(position([50_000.003_906_25, 0.0, 0.0]), None);
+        assert_eq!(position([0.0, f32::NAN, 0.0]), None);
+        assert_eq!(position([0.0, 0.0, f32::NEG_INFINITY]), None);
+    }
+
+    #[test]
+    fn the_fix_that_reaches_a_point_still_has_the_old_leg() {
+        let mut state = State { serial: 7, count: 3, index: 2, phase: 1, ..State::EMPTY };
+        state.points[1] = [1000, 0, -10];
+        state.points[2] = [1000, 2000, -10];
+        let answer = state.fix(7, [100.0, 0.0, -1.0]);
+        let line = Command::Line { start: [0.0; 3], direction: [100.0, 0.0, -1.0] };
+        assert_eq!((answer.command, answer.heading, answer.finished), (line, 0, true));
+        assert_eq!((state.index, state.phase, state.finished), (2, 1, true));
+    }
+
+    #[test]
+    fn a_fix_on_the_empty_state_is_refused() {
+        let mut state = State::EMPTY;
+        assert_eq!(state.fix(0, [0.0; 3]).refusal, Some(Refusal::plain(14)));
+        assert_eq!(state, State::EMPTY);
+    }
+}

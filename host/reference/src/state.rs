@@ -1,0 +1,111 @@
+//! The state: a plan and where the aircraft is on it.
+
+use crate::course::Level;
+use crate::rules;
+
+pub const PLACES: usize = 64;
+
+#[derive(Clone, Copy, Debug, PartialEq, Eq)]
+pub enum Mode {
+    Lines,
+    Fillets,
+    Dubins,
+}
+
+#[derive(Clone, Copy, Debug, PartialEq, Eq)]
+pub struct State {
+    pub serial: u32,
+    pub mode: Mode,
+    pub radius: u32,
+    pub count: u32,
+    pub points: [[i32; 3]; PLACES],
+    pub courses: [u32; PLACES],
+    pub index: u32,
+    pub phase: u32,
+    pub finished: bool,
+}
+
+impl State {
+    pub const EMPTY: State = State {
+        serial: 0,
+        mode: Mode::Lines,
+        radius: 0,
+        count: 0,
+        points: [[0; 3]; PLACES],
+        courses: [0; PLACES],
+        index: 0,
+        phase: 0,
+        finished: false,
+    };
+
+    /// Point i, counted from 1: north, east, down.
+    pub fn point(&self, i: usize) -> [i64; 3] {
+        self.points[i - 1].map(i64::from)
+    }
+
+    pub fn level_point(&self, i: usize) -> Level {
+        let [n, e, _] = self.point(i);
+        (n, e)
+    }
+
+    /// The leg that ends at point i, in three dimensions.
+    pub fn leg(&self, i: usize) -> [i64; 3] {
+        let (from, to) = (self.point(i - 1), self.point(i));
+        [to[0] - from[0], to[1] - from[1], to[2] - from[2]]
+    }
+
+    pub fn level_leg(&self, i: usize) -> Level {
+        let [n, e, _] = self.leg(i);
+        (n, e)
+    }
+
+    pub fn course(&self, i: usize) -> i64 {
+        i64::from(self.courses[i - 1])
+    }
+
+    /// The last index and phase that the mode allows.
+    pub fn last_place(&self) -> (u32, u32) {
+        match self.mode {
+            Mode::Lines => (self.count - 1, 1),
+            Mode::Fillets => (self.count - 1, 2),
+            Mode::Dubins => (self.count, 5),
+        }
+    }
+
+    /// False exactly where refusal 14 is given.
+    pub fn is_sound(&self) -> bool {
+        self.serial != 0
+            && (3..=PLACES as u32).contains(&self.count)
+            && self.radius_is_allowed()
+            && self.places_are_allowed()
+            && self.progress_is_allowed()
+            && rules::check_plan(self).is_ok()
+    }
+
+    fn radius_is_allowed(&self) -> bool {
+        match self.mode {
+            Mode::Lines => self.radius == 0,
+            _ => rules::RADIUS.contains(&self.radius),
+        }
+    }
+
+    fn places_are_allowed(&self) -> bool {
+        for i in 0..PLACES {
+            let used = i < self.count as usize;
+            if used && !rules::point_in_range(self.points[i]) || !used && self.points[i] != [0; 3] {
+                return false;
+            }
+            let has_course = used && self.mode == Mode::Dubins;
+            if has_course && self.courses[i] > rules::LAST_COURSE || !has_course && self.courses[i] != 0 {
+                return false;
+            }
+        }
+        true
+    }
+
+    fn progress_is_allowed(&self) -> bool {
+        let (last_index, last_phase) = self.last_place();
+        let allowed = (2..=last_index).contains(&self.index) && (1..=last_phase).contains(&self.phase);
+        allowed && (!self.finished || (self.index, self.phase) == (last_index, last_phase))
+    }
+}
