@@ -16,6 +16,7 @@ use manager::State;
 use plan::Mode;
 use plan::Plan;
 use plane::Point;
+use records::signed;
 use records::u16_at;
 use records::u32_at;
 use units::Fix;
@@ -41,14 +42,6 @@ fn byte_at(s: &[u8], i: usize) -> u8 {
         return s[i];
     }
     0
-}
-
-// Two's complement.
-fn signed(bits: u32) -> i32 {
-    if bits < 2147483648 {
-        return bits as i32;
-    }
-    -1 - ((4294967295 - bits) as i32)
 }
 
 fn point_at(s: &[u8], i: usize) -> Point
