@@ -1,7 +1,7 @@
 //! Each call made twice, by the reference and by the compiled manager, and every word compared.
 
-use crate::compiled::{self, ANSWER_WORDS, COMMAND_NUMBERS, LOAD_WORDS, TOO_SHORT, WRITE_WORDS};
-use crate::words::{self, hex_of_bytes, hex_of_words, Words, STATE_WORDS};
+use compiled::calls::{self, ANSWER_WORDS, COMMAND_NUMBERS, LOAD_WORDS, TOO_SHORT, WRITE_WORDS};
+use compiled::words::{self, hex_of_bytes, hex_of_words, Words, STATE_WORDS};
 use reference::{load, write, State};
 
 /// What lent memory holds before a call, so that a word too few or too many shows.
@@ -47,8 +47,8 @@ impl Tally {
         let answer_wanted = [number, place, PATTERN];
         let mut state = [PATTERN; STATE_WORDS + SPARE];
         let mut answer = [PATTERN; LOAD_WORDS + 1];
-        let result = compiled::load(file, reader, &mut state, &mut answer);
-        let desk = compiled::refusal(file, reader);
+        let result = calls::load(file, reader, &mut state, &mut answer);
+        let desk = calls::refusal(file, reader);
         self.loads += 1;
         self.load_refusals[number as usize] += 1;
         if (result, desk, answer, state) != (number, number, answer_wanted, state_wanted) {
@@ -80,7 +80,7 @@ impl Tally {
         lent[..STATE_WORDS].copy_from_slice(&before);
         let mut answer = [PATTERN; ANSWER_WORDS + 1];
         let mut command = [f32::from_bits(PATTERN); COMMAND_NUMBERS + 1];
-        let result = compiled::fix(&mut lent, named, fix, &mut answer, &mut command);
+        let result = calls::fix(&mut lent, named, fix, &mut answer, &mut command);
         self.count_fix(&before, &after, answer_wanted[0]);
         let bits = command.map(f32::to_bits);
         let agrees = result == answer_wanted[0]
@@ -127,7 +127,7 @@ impl Tally {
         let answer_wanted = [number, place, length as u32, PATTERN];
         let mut file = vec![BYTE_PATTERN; room];
         let mut answer = [PATTERN; WRITE_WORDS + 1];
-        let result = compiled::write(state, version, &mut file, &mut answer);
+        let result = calls::write(state, version, &mut file, &mut answer);
         self.writes += 1;
         self.write_refusals[number as usize] += 1;
         if (result, answer) != (number, answer_wanted) || file != file_wanted {
@@ -150,13 +150,13 @@ impl Tally {
         let mut room = [BYTE_PATTERN; 1200];
         let less = |length: usize| length.saturating_sub(cut);
         let results = [
-            compiled::load(file, 3, &mut lent[..less(STATE_WORDS)], &mut answer),
-            compiled::load(file, 3, &mut lent, &mut answer[..less(LOAD_WORDS)]),
-            compiled::fix(&mut lent[..less(STATE_WORDS)], state[0], [0.0; 3], &mut answer, &mut command),
-            compiled::fix(&mut lent, state[0], [0.0; 3], &mut answer[..less(ANSWER_WORDS)], &mut command),
-            compiled::fix(&mut lent, state[0], [0.0; 3], &mut answer, &mut command[..less(COMMAND_NUMBERS)]),
-            compiled::write(&lent[..less(STATE_WORDS)], 3, &mut room, &mut answer),
-            compiled::write(&lent, 3, &mut room, &mut answer[..less(WRITE_WORDS)]),
+            calls::load(file, 3, &mut lent[..less(STATE_WORDS)], &mut answer),
+            calls::load(file, 3, &mut lent, &mut answer[..less(LOAD_WORDS)]),
+            calls::fix(&mut lent[..less(STATE_WORDS)], state[0], [0.0; 3], &mut answer, &mut command),
+            calls::fix(&mut lent, state[0], [0.0; 3], &mut answer[..less(ANSWER_WORDS)], &mut command),
+            calls::fix(&mut lent, state[0], [0.0; 3], &mut answer, &mut command[..less(COMMAND_NUMBERS)]),
+            calls::write(&lent[..less(STATE_WORDS)], 3, &mut room, &mut answer),
+            calls::write(&lent, 3, &mut room, &mut answer[..less(WRITE_WORDS)]),
         ];
         let untouched = lent == *state
             && answer == [PATTERN; ANSWER_WORDS]

@@ -4,12 +4,10 @@
 
 mod chance;
 mod compare;
-mod compiled;
 mod files;
 mod plans;
 mod positions;
 mod runs;
-mod words;
 
 use compare::Tally;
 use std::process::ExitCode;

@@ -4,7 +4,7 @@ use crate::chance::Chance;
 use crate::compare::{Case, Tally};
 use crate::files::{loading_file, random_file};
 use crate::positions::random_fix;
-use crate::words::{self, Words, COURSES, FINISHED, INDEX, PHASE, STATE_WORDS};
+use compiled::words::{self, Words, COURSES, FINISHED, INDEX, PHASE, STATE_WORDS};
 use reference::{file, State};
 
 const ODD_VERSIONS: [u32; 16] = [

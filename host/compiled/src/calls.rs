@@ -1,4 +1,4 @@
-//! The compiled path manager behind its C interface.
+//! The functions of the C interface, for slices.
 
 mod c {
     extern "C" {

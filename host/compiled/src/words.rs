@@ -1,6 +1,6 @@
 //! A state and an answer as the words of the C interface.
 
-use crate::compiled::{ANSWER_WORDS, COMMAND_NUMBERS};
+use crate::calls::{ANSWER_WORDS, COMMAND_NUMBERS};
 use reference::{Answer, Command, Mode, State};
 
 pub const STATE_WORDS: usize = 263;

@@ -1,0 +1,41 @@
+//! Fixes and loads timed against the reference, both in one run on the same bytes: `speed [FIXES [LOADS]]`.
+
+mod plans;
+mod timing;
+
+use plans::{plan, simulated};
+use reference::{write, Mode};
+use std::process::ExitCode;
+use timing::{fixes, loads, Times};
+
+const MODES: [(Mode, &str); 3] = [(Mode::Lines, "lines"), (Mode::Fillets, "fillets"), (Mode::Dubins, "dubins")];
+const COUNTS: [usize; 3] = [3, 16, 64];
+
+fn row(name: &str, count: usize, what: &str, times: Times) {
+    let Times { compiled, words, native } = times;
+    let (by_words, by_native) = (compiled / words, compiled / native);
+    println!("{name:8} {count:3} {what:5} {compiled:9.1} {words:9.1} {by_words:6.2} {native:9.1} {by_native:6.2}");
+}
+
+fn main() -> ExitCode {
+    let given: Vec<u64> = std::env::args().skip(1).filter_map(|text| text.parse().ok()).collect();
+    let (fix_count, load_count) = match given[..] {
+        [] => (1_000_000, 100_000),
+        [fixes] => (fixes, 100_000),
+        [fixes, loads] => (fixes, loads),
+        _ => {
+            eprintln!("usage: speed [FIXES [LOADS]]");
+            return ExitCode::from(2);
+        }
+    };
+    println!("mode       N       proved ns  words ns  ratio native ns  ratio");
+    for (mode, name) in MODES {
+        for count in COUNTS {
+            let state = plan(mode, count);
+            let file = write(&state, 3, usize::MAX).expect("the plan is sound");
+            row(name, count, "fix", fixes(&state, &simulated(&state), fix_count));
+            row(name, count, "load", loads(&file, load_count));
+        }
+    }
+    ExitCode::SUCCESS
+}
