@@ -1,6 +1,7 @@
 // Courses, in 1/4096 of a circle clockwise from north: the sine table, directions, bearings and offsets (document 01, "The course table").
 ghost use mathlib.Core.Path.{_≡_};
-ghost use Prim.Native.Nat.{_≤_, _<_, _^_};
+ghost use Prim.Native.Nat.{_-_, _*_, _/_, _≤_, _<_, _^_};
+ghost use lib.Dec.{leb};
 ghost use lib.IntN.{pos, _*ℤ_};
 ghost use Rattle.integers.specs.Bounds.{Within};
 ghost use Rattle.integers.specs.Round.{nearestOf};
@@ -1060,13 +1061,36 @@ fn entry(table: &[u16; 1025], k: usize) -> u16
     table[k]
 }
 
-// S[k], for one reading alone.
+// S[k], read from the table.
 pub fn sine(k: usize) -> u16
     requires { ⌜ k ≤ 1024 ⌝ }
     ensures { λ r. ⌜ r ≡ sineOf k ⌝ }
 {
     let table = table();
     entry(&table, k)
+}
+
+// c - p y, with y in 1/2^20.
+fn less_part(c: u64, p: u64, y: u64) -> u64
+    requires { ⌜ (p ≤ c) × ((c ≤ 2 ^ 42) × (y ≤ 2 ^ 20)) ⌝ }
+    ensures { λ r. ⌜ (r ≡ c - p * y / 1048576) × (r ≤ c) ⌝ }
+{
+    c - p * y / 1048576
+}
+
+// S[k], worked out: x (1.57.. - x² (0.64.. - x² (0.07.. - x² (0.004.. - x² 0.0001..)))) with x = k / 1024, the factors in 1/2^40. Reading it
+// would copy the whole table.
+fn worked_sine(k: usize) -> u64
+    requires { ⌜ k ≤ 1024 ⌝ }
+    ensures { λ r. ⌜ r ≡ sineOf k ⌝ }
+{
+    let x = k as u64;
+    let y = x * x;
+    let d = less_part(5139275500, 166764802, y);
+    let c = less_part(87619991819, d, y);
+    let b = less_part(710244664784, c, y);
+    let a = less_part(1727108818750, b, y);
+    (x * a * 16 + 549755813888) / 1099511627776
 }
 
 // A vector turned clockwise by q quarters.
@@ -1100,9 +1124,8 @@ pub fn direction(k: usize) -> Vector
     ensures { λ r. ⌜ (r ≡ directionOf k) × Near 16384 r ⌝ }
 {
     let j = k % 1024;
-    let table = table();
-    let north = entry(&table, 1024 - j) as i64;
-    let east = entry(&table, j) as i64;
+    let north = worked_sine(1024 - j) as i64;
+    let east = worked_sine(j) as i64;
     turned_by(k / 1024 % 4, north, east)
 }
 
@@ -1126,30 +1149,38 @@ pub fn offset(m: u64, k: usize) -> Vector
 }
 
 // The edge of unit j in the first quarter, j = 1..1024.
-fn edge_north(table: &[u16; 1025], j: usize) -> u64
-    requires { ⌜ ((0 < j) × (j ≤ 1024)) × Sines (now table) ⌝ }
+fn edge_north(j: usize) -> u64
+    requires { ⌜ (0 < j) × (j ≤ 1024) ⌝ }
     ensures { λ r. ⌜ r ≡ edgeNorth j ⌝ }
 {
-    entry(table, 1024 - j) as u64
+    worked_sine(1024 - j)
 }
 
-fn edge_east(table: &[u16; 1025], j: usize) -> u64
-    requires { ⌜ ((0 < j) × (j ≤ 1024)) × Sines (now table) ⌝ }
+fn edge_east(j: usize) -> u64
+    requires { ⌜ (0 < j) × (j ≤ 1024) ⌝ }
     ensures { λ r. ⌜ r ≡ edgeEast j ⌝ }
 {
-    entry(table, j) as u64
+    worked_sine(j)
+}
+
+// Whether (a, b) has reached edge j.
+fn reaches(a: u64, b: u64, j: usize) -> bool
+    requires { ⌜ ((a < 2 ^ 48) × (b < 2 ^ 48)) × ((0 < j) × (j ≤ 1024)) ⌝ }
+    ensures { λ r. ⌜ r ≡ leb (edgeEast j * a) (edgeNorth j * b) ⌝ }
+{
+    edge_east(j) * a <= edge_north(j) * b
 }
 
 // How many of the first quarter's edges (a, b) has reached, by halving the range.
-fn edges_reached(table: &[u16; 1025], a: u64, b: u64) -> usize
-    requires { ⌜ ((a < 2 ^ 48) × (b < 2 ^ 48)) × Sines (now table) ⌝ }
+fn edges_by_halves(a: u64, b: u64) -> usize
+    requires { ⌜ (a < 2 ^ 48) × (b < 2 ^ 48) ⌝ }
     ensures { λ r. ⌜ Reached a b r ⌝ }
 {
     let mut low: usize = 0;
     let mut high: usize = 1025;
     while low + 1 < high {
         let middle = (low + high) / 2;
-        if edge_east(table, middle) * a <= edge_north(table, middle) * b {
+        if reaches(a, b, middle) {
             low = middle;
         } else {
             high = middle;
@@ -1158,13 +1189,66 @@ fn edges_reached(table: &[u16; 1025], a: u64, b: u64) -> usize
     low
 }
 
+// 1,024 times the arc tangent of low / high in quarters of a circle, nearly.
+fn near_arc(low: f64, high: f64) -> f64 {
+    let t = low / high;
+    let u = t * t;
+    let v = u * u;
+    let first = 651.8952796 - 217.0542897 * u;
+    let second = 127.3461777 - 78.52026972 * u;
+    let third = 36.89093478 - 8.559678308 * u;
+    t * (first + v * (second + v * third))
+}
+
+// Near the last edge that (a, b) has reached. A guess, that `edges_reached` tests; only its range is promised. 2^52 - 1/2 is added to have the
+// whole number in the last bits.
+fn near_edge(a: u64, b: u64) -> usize
+    ensures { λ r. ⌜ (1 ≤ r) × (r ≤ 1022) ⌝ }
+{
+    let x = std::num::nearest_u64_to_f64(a);
+    let y = std::num::nearest_u64_to_f64(b);
+    let arc = if b <= a {
+        near_arc(y, x)
+    } else {
+        1024.0 - near_arc(x, y)
+    };
+    let edge = (integers::bits_of(arc + 4503599627370495.5) % 2048) as usize;
+    if edge < 1 {
+        return 1;
+    }
+    if edge <= 1022 { edge } else { 1022 }
+}
+
+// How many of the first quarter's edges (a, b) has reached. Where the guess is one off, its neighbours are tried.
+fn edges_reached(a: u64, b: u64) -> usize
+    requires { ⌜ (a < 2 ^ 48) × (b < 2 ^ 48) ⌝ }
+    ensures { λ r. ⌜ Reached a b r ⌝ }
+{
+    let edge = near_edge(a, b);
+    if reaches(a, b, edge) {
+        if !reaches(a, b, edge + 1) {
+            return edge;
+        }
+        if !reaches(a, b, edge + 2) {
+            return edge + 1;
+        }
+    } else {
+        if edge == 1 {
+            return 0;
+        }
+        if reaches(a, b, edge - 1) {
+            return edge - 1;
+        }
+    }
+    edges_by_halves(a, b)
+}
+
 // The bearing of (a, b) turned by q quarters.
 fn bearing_in(q: usize, a: u64, b: u64) -> usize
     requires { ⌜ (q < 4) × ((0 < a) × ((a < 2 ^ 48) × (b < 2 ^ 48))) ⌝ }
     ensures { λ r. ⌜ r ≡ bearingOf (turned q (plain a b)) ⌝ }
 {
-    let table = table();
-    (1024 * q + edges_reached(&table, a, b)) % 4096
+    (1024 * q + edges_reached(a, b)) % 4096
 }
 
 // The bearing of v, 0 to 4095; 0 at (0, 0).

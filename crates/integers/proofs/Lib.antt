@@ -4,6 +4,7 @@ pub mod ValueLaws
 pub mod Ring
 pub mod Tests
 pub mod ChooseLaws
+pub mod FloatLaws
 pub mod RootLaws
 pub mod RoundLaws
 pub mod WrapLaws

@@ -39,3 +39,9 @@ root-only n r p = le-antisymm (at-most n r (rootOf n) p (root-is n)) (at-most n 
 -- the root of what lies below a square
 pub root-lt : (n b : ℕ) → n < b * b → rootOf n < b
 root-lt n b h = square-lt (rootOf n) b (lt-of-le-of-lt (root-is n .low) h)
+
+-- what is below 2^32 has a square below 2^64
+pub square-fits : (m : ℕ) → m < 4294967296 → m * m < 18446744073709551616
+square-fits m h =
+    let k : m ≤ 4294967295 = omega arith in
+    omega (arith, mul-le-mul k k)

@@ -1,5 +1,6 @@
 pub mod Bounds
 pub mod Choose
+pub mod Floats
 pub mod Root
 pub mod Round
 pub mod Wide

@@ -3,6 +3,7 @@ ghost use mathlib.Core.Path.{_≡_};
 ghost use Prim.Native.Nat.{_+_, _*_, _<_};
 ghost use lib.Dec.{leb};
 ghost use lib.IntN.{natAbs};
+ghost use Rattle.integers.specs.Floats.{bitsFrom};
 ghost use Rattle.integers.specs.Root.{rootOf};
 ghost use Rattle.integers.specs.Round.{nearestOf};
 ghost use Rattle.integers.specs.Wide.{IsProduct, IsTriple, Limbs, base, tripleOf};
@@ -27,8 +28,31 @@ pub fn nearest(x: i64) -> i64
     if x < 0 { 0 - size } else { size }
 }
 
+// The bits of a float that is at least 0, and 0 of any other.
+pub fn bits_of(x: f64) -> u64
+    ensures { λ r. ⌜ r ≡ bitsFrom x ⌝ }
+{
+    if 0.0 <= x {
+        return f64::to_bits(x);
+    }
+    0
+}
+
+// Near the square root: half the exponent, then three of Newton's steps. A guess, that `root` tests; only its range is promised. 2^52 - 1/2 is
+// added to have the whole number in the last bits.
+fn near_root(n: u64) -> u64
+    ensures { λ r. ⌜ r < 4294967296 ⌝ }
+{
+    let x = std::num::nearest_u64_to_f64(n);
+    let a = f64::from_bits(bits_of(x) / 2 % 4611686018427387904 + 2303591209400008704);
+    let b = 0.5 * (a + x / a);
+    let c = 0.5 * (b + x / b);
+    let d = 0.5 * (c + x / c);
+    bits_of(d + 4503599627370495.5) % 4294967296
+}
+
 // The floor of the square root, by halving the range that holds it.
-pub fn root(n: u64) -> u64
+fn root_by_halves(n: u64) -> u64
     ensures { λ r. ⌜ r ≡ rootOf n ⌝ }
 {
     let mut low: u64 = 0;
@@ -42,6 +66,20 @@ pub fn root(n: u64) -> u64
         }
     }
     low
+}
+
+// The floor of the square root.
+pub fn root(n: u64) -> u64
+    ensures { λ r. ⌜ r ≡ rootOf n ⌝ }
+{
+    let guess = near_root(n);
+    let square = guess * guess;
+    if square <= n {
+        if n - square <= 2 * guess {
+            return guess;
+        }
+    }
+    root_by_halves(n)
 }
 
 // A sum of courses or turns, modulo 4,096.

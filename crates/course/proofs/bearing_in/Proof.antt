@@ -5,9 +5,6 @@ use Rattle.course.proofs.BearingLaws.{bearing-turned}
 use Rattle.course.proofs.bearing_in.Statement.{statement}
 use Rattle.course.proofs.bearing_in.Tie as tie
 
-table-requires : tie.Need-table-requires
-table-requires c κs = search needs
-
 mul-result : tie.Need-mul-result
 mul-result c = search needs
 
@@ -19,8 +16,8 @@ add-result c = search needs
 
 returns : tie.Need-returns
 returns c =
-    let s = c .before .before .before in
+    let s = c .before in
     sym (bearing-turned (s .args .a) (s .args .b) (c .edges-reached .result) (s .args .q) (s .pre .1 .0) (c .edges-reached .ensures) (s .pre .0))
 
 pub bearing-in-spec : {M : Type 1} → statement M
-bearing-in-spec = tie.close (tie.spec table-requires mul-result edges-reached-requires add-result returns)
+bearing-in-spec = tie.close (tie.spec mul-result edges-reached-requires add-result returns)

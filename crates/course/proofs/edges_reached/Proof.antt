@@ -1,110 +1,107 @@
--- `edges_reached` counts the edges reached: edge low is reached or low is 0, edge high is not or high is 1025. Assumes nothing.
-use mathlib.Core.Path.{_≡_, subst}
-use Prim.Native.Nat.{ℕ, suc, _+_, _-_, _*_, _/_, _<_, _≤_}
+-- `edges_reached` counts the edges reached: its guess or a neighbour of it, where the tests show it, and else what `edges_by_halves` gives.
+-- Assumes nothing.
+use mathlib.Core.Path.{_≡_, sym, _∙_, subst}
+use mathlib.Core.Bool.{Bool, true, false}
+use Prim.Native.Nat.{ℕ, suc, _+_, _-_, _*_, _≤_, _<_}
 use native.Mathlib.Omega.{arith}
-use native.Mathlib.Nat.{mul-le-mul-right}
-use Rattle.course.specs.Bearing.{edgeNorth, edgeEast}
-use Rattle.course.proofs.EdgeLaws.{east-most, north-most}
+use lib.Dec.{leb}
+use borrow.Author.Tests.{leb-true, leb-false, not-true, not-false}
+use borrow.Author.Needs.{needs}
+use Rattle.course.specs.Bearing.{edgeNorth, edgeEast, Reached}
 use Rattle.course.proofs.edges_reached.Statement.{statement}
 use Rattle.course.proofs.edges_reached.Tie as tie
 
-record Inv (a b low high : ℕ) : Type 0 where
-  order : low < high
-  most : high ≤ 1025
-  from : 1 ≤ low → edgeEast low * a ≤ edgeNorth low * b
-  upto : high ≤ 1024 → edgeNorth high * b < edgeEast high * a
+-- whether the pair (a, b) has reached edge j
+abbrev Test : ℕ → ℕ → ℕ → Bool → Type 0
+Test a b j t = leb (edgeEast j * a) (edgeNorth j * b) ≡ t
 
-abbrev Inv-loop : tie.InvT-loop
-Inv-loop table a b low₀ high₀ low high = Inv a b low high
+-- edge t is reached, the next edge, u, is not
+between : (a b t u : ℕ) → t < 1024 → u ≡ suc t → Test a b t true → Test a b u false → Reached a b t
+between a b t u h e p q =
+    record { most = omega arith; from = λ _. leb-true _ _ p; upto = λ _. subst (λ (j : ℕ). edgeNorth j * b < edgeEast j * a) e (leb-false _ _ q) }
 
-abbrev μ-loop : tie.MeasureT-loop
-μ-loop table a b low₀ high₀ low high = high - low
+-- the first edge, u, is not
+before-first : (a b u : ℕ) → u ≡ 1 → Test a b u false → Reached a b 0
+before-first a b u e q =
+    record { most = omega arith; from = λ (h : 1 ≤ 0). absurd (omega arith); upto = λ _. subst (λ (j : ℕ). edgeNorth j * b < edgeEast j * a) e (leb-false _ _ q) }
 
--- the test, of the values that the calls ensure
-carry : {x y e n : ℕ} (a b : ℕ) → x ≡ e → y ≡ n → x * a ≤ y * b → e * a ≤ n * b
-carry {x} {y} {e} {n} a b p q h = subst (λ (m : ℕ). m * a ≤ n * b) p (subst (λ (m : ℕ). x * a ≤ m * b) q h)
+near-edge-requires : tie.Need-near-edge-requires
+near-edge-requires c κs = search needs
 
-carry< : {x y e n : ℕ} (a b : ℕ) → x ≡ e → y ≡ n → y * b < x * a → n * b < e * a
-carry< {x} {y} {e} {n} a b p q h = subst (λ (m : ℕ). n * b < m * a) p (subst (λ (m : ℕ). m * b < x * a) q h)
+reaches-requires : tie.Need-reaches-requires
+reaches-requires c κs = search needs
 
-loop-holds : tie.Need-loop-holds Inv-loop μ-loop
-loop-holds c = record { order = omega arith; most = omega arith; from = λ (h : 1 ≤ 0). absurd (omega arith); upto = λ (h : 1025 ≤ 1024). absurd (omega arith) }
+add-reaches : tie.Need-add-reaches
+add-reaches c = search needs
 
-add-loop : tie.Need-add-loop Inv-loop μ-loop
-add-loop c = omega arith
+reaches-requires-2 : tie.Need-reaches-requires-2
+reaches-requires-2 c κs = search needs
 
-add-middle : tie.Need-add-middle Inv-loop μ-loop
-add-middle c = omega arith
-
-edge-east-requires : tie.Need-edge-east-requires Inv-loop μ-loop
-edge-east-requires c κs = ((omega arith, omega arith), c .before .before .pre .1)
-
-mul-if1 : tie.Need-mul-if1 Inv-loop μ-loop
-mul-if1 c =
-    let l = c .before .before .loop in
-    omega (arith, mul-le-mul-right {m = c .edge-east .result} {n = 32768} (c .before .before .before .args .a) (omega (arith, east-most ((l .low + l .high) / 2) (omega arith) (omega arith))))
-
-edge-north-requires : tie.Need-edge-north-requires Inv-loop μ-loop
-edge-north-requires c κs = ((omega arith, omega arith), c .before .before .before .pre .1)
-
-mul-if1-2 : tie.Need-mul-if1-2 Inv-loop μ-loop
-mul-if1-2 c =
-    let l = c .before .before .before .loop in
-    omega (arith, mul-le-mul-right {m = c .edge-north .result} {n = 32768} (c .before .before .before .before .args .b) (omega (arith, north-most ((l .low + l .high) / 2) (omega arith) (omega arith))))
-
-loop-less : tie.Need-loop-less Inv-loop μ-loop
-loop-less c = omega arith
-
-loop-again : tie.Need-loop-again Inv-loop μ-loop
-loop-again c =
-    let s = c .before .before .before .before .before .args in
-    let l = c .before .before .before .before .loop in
-    record {
-      order = omega arith;
-      most = omega arith;
-      from = λ h. carry (s .a) (s .b) (c .before .before .edge-east .ensures) (c .before .edge-north .ensures) (c .if1 .taken);
-      upto = l .inv .upto;
-    }
-
-loop-less-2 : tie.Need-loop-less-2 Inv-loop μ-loop
-loop-less-2 c = omega arith
-
-loop-again-2 : tie.Need-loop-again-2 Inv-loop μ-loop
-loop-again-2 c =
-    let s = c .before .before .before .before .before .args in
-    let l = c .before .before .before .before .loop in
-    record {
-      order = omega arith;
-      most = omega arith;
-      from = l .inv .from;
-      upto = λ h. carry< (s .a) (s .b) (c .before .before .edge-east .ensures) (c .before .edge-north .ensures) (c .if1 .left);
-    }
-
-returns : tie.Need-returns Inv-loop μ-loop
+returns : tie.Need-returns
 returns c =
-    let s = c .before .before .args in
-    let l = c .before .loop in
-    record {
-      most = omega arith;
-      from = l .inv .from;
-      upto = λ (h : l .low < 1024). subst (λ (m : ℕ). edgeNorth m * s .b < edgeEast m * s .a) {x = l .high} {y = suc (l .low)} (omega arith) (l .inv .upto (omega arith));
-    }
+    let n = c .before .before .before .before .near-edge .ensures in
+    let first = c .before .before .before .reaches .ensures in
+    let second = c .before .reaches2 .ensures in
+    between _ _ _ _ (omega (arith, n)) (omega arith) (sym first ∙ c .before .before .if1 .taken) (sym second ∙ not-true _ (c .if2 .taken))
+
+add-reaches-2 : tie.Need-add-reaches-2
+add-reaches-2 c = search needs
+
+reaches-requires-3 : tie.Need-reaches-requires-3
+reaches-requires-3 c κs = search needs
+
+add-result : tie.Need-add-result
+add-result c = search needs
+
+returns-2 : tie.Need-returns-2
+returns-2 c =
+    let n = c .before .before .before .before .before .before .near-edge .ensures in
+    let second = c .before .before .before .reaches2 .ensures in
+    let third = c .before .reaches3 .ensures in
+    between _ _ _ _ (omega (arith, n)) (omega arith) (sym second ∙ not-false _ (c .before .before .if2 .left)) (sym third ∙ not-true _ (c .if3 .taken))
+
+returns-3 : tie.Need-returns-3
+returns-3 c = before-first _ _ _ (c .if4 .taken) (sym (c .before .before .reaches .ensures) ∙ c .before .if1 .left)
+
+sub-reaches : tie.Need-sub-reaches
+sub-reaches c = search needs
+
+reaches-requires-4 : tie.Need-reaches-requires-4
+reaches-requires-4 c κs = search needs
+
+sub-result : tie.Need-sub-result
+sub-result c = search needs
+
+returns-4 : tie.Need-returns-4
+returns-4 c =
+    let n = c .before .before .before .before .before .near-edge .ensures in
+    let first = c .before .before .before .before .reaches .ensures in
+    let fourth = c .before .reaches4 .ensures in
+    between _ _ _ _ (omega (arith, n)) (omega arith) (sym fourth ∙ c .if5 .taken) (sym first ∙ c .before .before .before .if1 .left)
+
+edges-by-halves-requires : tie.Need-edges-by-halves-requires
+edges-by-halves-requires c κs = search needs
+
+returns-5 : tie.Need-returns-5
+returns-5 c = search needs
 
 pub edges-reached-spec : {M : Type 1} → statement M
 edges-reached-spec =
     tie.close
     (tie.spec
-    Inv-loop
-    μ-loop
-    loop-holds
-    add-loop
-    add-middle
-    edge-east-requires
-    mul-if1
-    edge-north-requires
-    mul-if1-2
-    loop-less
-    loop-again
-    loop-less-2
-    loop-again-2
-    returns)
+    near-edge-requires
+    reaches-requires
+    add-reaches
+    reaches-requires-2
+    returns
+    add-reaches-2
+    reaches-requires-3
+    add-result
+    returns-2
+    returns-3
+    sub-reaches
+    reaches-requires-4
+    sub-result
+    returns-4
+    edges-by-halves-requires
+    returns-5)

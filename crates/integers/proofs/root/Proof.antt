@@ -1,68 +1,30 @@
--- `root` gives the floor of the square root: low² ≤ n < high² holds at each turn, and at the end high is low + 1. Assumes nothing.
-use mathlib.Core.Path.{_≡_}
-use Prim.Native.Nat.{ℕ, _+_, _-_, _*_, _/_, _≤_, _<_}
-use native.Mathlib.Nat.{mul-le-mul}
+-- `root` gives the floor of the square root: the guess where it passes the test, and else what `root_by_halves` gives. Assumes nothing.
+use Prim.Native.Nat.{ℕ, _+_, _*_, _≤_, _<_}
 use native.Mathlib.Omega.{arith}
-use Rattle.integers.proofs.RootLaws.{root-only}
+use borrow.Author.Needs.{needs}
+use Rattle.integers.proofs.RootLaws.{root-only, square-fits}
 use Rattle.integers.proofs.root.Statement.{statement}
 use Rattle.integers.proofs.root.Tie as tie
 
-abbrev Inv-loop : tie.InvT-loop
-Inv-loop n low₀ high₀ low high = (low < high) × ((high ≤ 4294967296) × ((low * low ≤ n) × (n < high * high)))
+near-root-requires : tie.Need-near-root-requires
+near-root-requires c κs = search needs
 
-abbrev μ-loop : tie.MeasureT-loop
-μ-loop n low₀ high₀ low high = high - low
+mul-square : tie.Need-mul-square
+mul-square c = record { fits = square-fits _ (c .near-root .ensures) }
 
-loop-holds : tie.Need-loop-holds Inv-loop μ-loop
-loop-holds c = omega arith
+mul-if2 : tie.Need-mul-if2
+mul-if2 c = search needs
 
-add-loop : tie.Need-add-loop Inv-loop μ-loop
-add-loop c = omega arith
+returns : tie.Need-returns
+returns c = root-only _ _ (record { low = c .before .if1 .taken; high = omega arith })
 
-add-middle : tie.Need-add-middle Inv-loop μ-loop
-add-middle c = omega arith
+root-by-halves-requires : tie.Need-root-by-halves-requires
+root-by-halves-requires c κs = search needs
 
--- the middle is below 2^32
-square-fits : (m : ℕ) → m < 4294967296 → m * m < 18446744073709551616
-square-fits m h =
-    let k : m ≤ 4294967295 = omega arith in
-    omega (arith, mul-le-mul k k)
-
-mul-if1 : tie.Need-mul-if1 Inv-loop μ-loop
-mul-if1 c =
-    let l = c .before .loop in
-    record { fits = square-fits ((l .low + l .high) / 2) (omega arith) }
-
-loop-less : tie.Need-loop-less Inv-loop μ-loop
-loop-less c = omega arith
-
-loop-again : tie.Need-loop-again Inv-loop μ-loop
-loop-again c = omega arith
-
-loop-less-2 : tie.Need-loop-less-2 Inv-loop μ-loop
-loop-less-2 c = omega arith
-
-loop-again-2 : tie.Need-loop-again-2 Inv-loop μ-loop
-loop-again-2 c = omega arith
-
-returns : tie.Need-returns Inv-loop μ-loop
-returns c =
-    let l = c .before .loop in
-    let e : l .high ≡ l .low + 1 = omega arith in
-    root-only _ _ (record { low = l .inv .1 .1 .0; high = rw e at (l .inv .1 .1 .1) })
+returns-2 : tie.Need-returns-2
+returns-2 c = search needs
 
 pub root-spec : {M : Type 1} → statement M
 root-spec =
     tie.close
-    (tie.spec
-    Inv-loop
-    μ-loop
-    loop-holds
-    add-loop
-    add-middle
-    mul-if1
-    loop-less
-    loop-again
-    loop-less-2
-    loop-again-2
-    returns)
+    (tie.spec near-root-requires mul-square mul-if2 returns root-by-halves-requires returns-2)
