@@ -3,12 +3,15 @@ use course::Vector;
 use plane::Point;
 ghost use mathlib.Core.Path.{_≡_};
 ghost use mathlib.Core.Bool.{true};
-ghost use Prim.Native.Nat.{_≤_, _<_};
+ghost use Prim.Native.Nat.{ℕ, _≤_, _<_};
 ghost use Rattle.course.specs.Vectors.{Near};
+ghost use Rattle.plane.specs.declared.Point.{Point};
 ghost use Rattle.plane.specs.Area.{InArea};
+ghost use Rattle.plane.specs.Level.{minus};
 ghost use Rattle.dubins.specs.Limits.{IsEnds, IsCircles, IsPath, IsFound};
 ghost use Rattle.dubins.specs.Cases.{startsRight, endsRight, sameSide, centreOf, circlesOf, tangentExists, straightOf, innerTangent, courseOf, turnOf, touchOf, pathOf, caseExists};
 ghost use Rattle.dubins.specs.Choice.{casePath, shorterOf, shortestOf, hasPathOf, farApart};
+ghost use Rattle.dubins.specs.Ways.{AreCentres, IsWay, IsTried, pathAlong, foundBy};
 
 // The ends of a leg: its points, the courses to leave and to arrive on, the radius of the circles.
 pub struct Ends {
@@ -17,6 +20,12 @@ pub struct Ends {
     pub end: Point,
     pub arrive: usize,
     pub radius: u64,
+}
+
+// The centres of the circles to the right and to the left of an end of a leg.
+struct Centres {
+    right: Vector,
+    left: Vector,
 }
 
 // The circles of a case: their centres, and v from the start's to the end's.
@@ -36,6 +45,21 @@ pub struct Path {
     pub end: Vector,
     pub z1: Vector,
     pub z2: Vector,
+}
+
+// A path without z1 and z2, which only the shortest needs.
+struct Way {
+    case: u8,
+    course: usize,
+    length: u64,
+    start: Vector,
+    end: Vector,
+}
+
+// The way of a case, or that the case does not exist.
+enum Tried {
+    Exists(Way),
+    Absent,
 }
 
 // The shortest of the cases that were asked for, or that none of them exists.
@@ -80,6 +104,15 @@ fn centre(p: Point, radius: u64, course: usize, right: bool) -> Vector
     plane::sum(from, across)
 }
 
+// The circles of a case, from their centres.
+fn circles_at(start: Vector, end: Vector) -> Circles
+    requires { ⌜ Near 510000 start × Near 510000 end ⌝ }
+    ensures { λ r. ⌜ (r ≡ record { start = start; end = end; v = minus end start }) × IsCircles r ⌝ }
+{
+    let v = plane::between(start, end);
+    Circles { start, end, v }
+}
+
 // The circles of a case of a leg.
 fn circles_of(ends: Ends, case: u8) -> Circles
     requires { ⌜ IsEnds ends ⌝ }
@@ -89,8 +122,24 @@ fn circles_of(ends: Ends, case: u8) -> Circles
     let to = ends.end;
     let start = centre(from, ends.radius, ends.leave, starts_right(case));
     let end = centre(to, ends.radius, ends.arrive, ends_right(case));
-    let v = plane::between(start, end);
-    Circles { start, end, v }
+    circles_at(start, end)
+}
+
+// Both centres at a point with a course.
+fn both_centres(p: Point, radius: u64, course: usize) -> Centres
+    requires { ⌜ InArea p × ((radius ≤ 10000) × (course < 4096)) ⌝ }
+    ensures { λ r. ⌜ AreCentres p radius course r ⌝ }
+{
+    let right = centre(p, radius, course, true);
+    let left = centre(p, radius, course, false);
+    Centres { right, left }
+}
+
+// Of both centres at an end, the one to the right or to the left.
+fn centre_on(centres: Centres, right: bool) -> Vector
+    ensures { λ r. ⌜ ((p : Point) (R χ : ℕ) → AreCentres p R χ centres → (r ≡ centreOf p R χ right) × Near 510000 r) ⌝ }
+{
+    if right { centres.right } else { centres.left }
 }
 
 // Whether the circles of a case, v apart, have the tangent that it flies along.
@@ -173,28 +222,22 @@ fn touch(centre: Vector, radius: u64, course: usize, right: bool) -> Vector
     plane::sum(centre, across)
 }
 
-// The leg by a case, from its circles and the length and the course of its straight part.
-fn path_of(ends: Ends, case: u8, circles: Circles, s: u64, course: usize) -> Path
+// The way of a case, from its circles and the length and the course of its straight part.
+fn way_of(ends: Ends, case: u8, circles: Circles, s: u64, course: usize) -> Way
     requires { ⌜ (IsEnds ends × ((1 ≤ case) × (case ≤ 4))) × (IsCircles circles × ((s ≤ 1442497) × (course < 4096))) ⌝ }
-    ensures { λ r. ⌜ (r ≡ pathOf ends case circles s course) × IsPath r ⌝ }
+    ensures { λ r. ⌜ (pathAlong (ends .radius) r ≡ pathOf ends case circles s course) × IsWay r ⌝ }
 {
     let start = circles.start;
     let end = circles.end;
-    let first = starts_right(case);
-    let last = ends_right(case);
-    let start_turn = turn(ends.leave, course, first);
-    let end_turn = turn(course, ends.arrive, last);
+    let start_turn = turn(ends.leave, course, starts_right(case));
+    let end_turn = turn(course, ends.arrive, ends_right(case));
     let length = s + plane::arc(ends.radius, start_turn + end_turn);
-    let z1 = touch(start, ends.radius, course, first);
-    let z2 = touch(end, ends.radius, course, last);
-    Path {
+    Way {
         case,
         course,
         length,
         start,
         end,
-        z1,
-        z2,
     }
 }
 
@@ -208,46 +251,85 @@ fn case_exists(ends: Ends, case: u8) -> bool
     tangent_exists(v, ends.radius, case)
 }
 
-// The leg by a case, where that exists.
-fn case_path(ends: Ends, case: u8) -> Found
+// The way of a case, where that exists, from both centres at each end.
+fn case_way(ends: Ends, from: Centres, to: Centres, case: u8) -> Tried
     requires { ⌜ IsEnds ends × ((1 ≤ case) × (case ≤ 4)) ⌝ }
-    ensures { λ r. ⌜ (r ≡ casePath ends case) × IsFound r ⌝ }
+    requires { ⌜ AreCentres (ends .start) (ends .radius) (ends .leave) from ⌝ }
+    requires { ⌜ AreCentres (ends .end) (ends .radius) (ends .arrive) to ⌝ }
+    ensures { λ r. ⌜ (foundBy (ends .radius) r ≡ casePath ends case) × IsTried r ⌝ }
 {
-    let circles = circles_of(ends, case);
+    let start = centre_on(from, starts_right(case));
+    let end = centre_on(to, ends_right(case));
+    let circles = circles_at(start, end);
     let v = circles.v;
     if tangent_exists(v, ends.radius, case) {
         let s = straight(v, ends.radius, case);
         let course = straight_course(v, s, ends.radius, case);
-        Found::Shortest(path_of(ends, case, circles, s, course))
+        Tried::Exists(way_of(ends, case, circles, s, course))
     } else {
-        Found::Missing
+        Tried::Absent
     }
 }
 
 // The shorter of two, the earlier on a tie.
-fn shorter(a: Found, b: Found) -> Found
-    requires { ⌜ IsFound a × IsFound b ⌝ }
-    ensures { λ r. ⌜ (r ≡ shorterOf a b) × IsFound r ⌝ }
+fn shorter(a: Tried, b: Tried) -> Tried
+    requires { ⌜ IsTried a × IsTried b ⌝ }
+    ensures { λ r. ⌜ ((R : ℕ) → foundBy R r ≡ shorterOf (foundBy R a) (foundBy R b)) × IsTried r ⌝ }
 {
     match b {
-        Found::Missing => a,
-        Found::Shortest(later) => match a {
-            Found::Missing => b,
-            Found::Shortest(earlier) => if earlier.length <= later.length { a } else { b },
+        Tried::Absent => a,
+        Tried::Exists(later) => match a {
+            Tried::Absent => b,
+            Tried::Exists(earlier) => if earlier.length <= later.length { a } else { b },
         },
     }
 }
 
-// The shortest leg by any case.
+// The path along a way, with the points where its straight part touches the circles.
+fn path_along(way: Way, radius: u64) -> Path
+    requires { ⌜ IsWay way × (radius ≤ 10000) ⌝ }
+    ensures { λ r. ⌜ (r ≡ pathAlong radius way) × IsPath r ⌝ }
+{
+    let start = way.start;
+    let end = way.end;
+    let z1 = touch(start, radius, way.course, starts_right(way.case));
+    let z2 = touch(end, radius, way.course, ends_right(way.case));
+    Path {
+        case: way.case,
+        course: way.course,
+        length: way.length,
+        start,
+        end,
+        z1,
+        z2,
+    }
+}
+
+// The path of a case that was tried, where that exists.
+fn found_by(tried: Tried, radius: u64) -> Found
+    requires { ⌜ IsTried tried × (radius ≤ 10000) ⌝ }
+    ensures { λ r. ⌜ (r ≡ foundBy radius tried) × IsFound r ⌝ }
+{
+    match tried {
+        Tried::Exists(way) => Found::Shortest(path_along(way, radius)),
+        Tried::Absent => Found::Missing,
+    }
+}
+
+// The shortest leg by any case. The centres are worked out once for all cases, z1 and z2 for the shortest alone.
 pub fn shortest_path(ends: Ends) -> Found
     requires { ⌜ IsEnds ends ⌝ }
     ensures { λ r. ⌜ (r ≡ shortestOf ends) × IsFound r ⌝ }
 {
-    let rsr = case_path(ends, 1);
-    let rsl = case_path(ends, 2);
-    let lsr = case_path(ends, 3);
-    let lsl = case_path(ends, 4);
-    shorter(shorter(shorter(rsr, rsl), lsr), lsl)
+    let start = ends.start;
+    let end = ends.end;
+    let from = both_centres(start, ends.radius, ends.leave);
+    let to = both_centres(end, ends.radius, ends.arrive);
+    let rsr = case_way(ends, from, to, 1);
+    let rsl = case_way(ends, from, to, 2);
+    let lsr = case_way(ends, from, to, 3);
+    let lsl = case_way(ends, from, to, 4);
+    found_by(shorter(shorter(shorter(rsr, rsl), lsr), lsl), ends.radius)
 }
 
 // Whether any case exists, with no bearing and no root worked out.
