@@ -17,7 +17,7 @@ pub struct Corner {
 }
 
 // The lesser way round between two courses.
-fn lesser_turn(j: usize, k: usize) -> usize
+pub fn lesser_turn(j: usize, k: usize) -> usize
     requires { ⌜ (j < 4096) × (k < 4096) ⌝ }
     ensures { λ r. ⌜ (r ≡ lesserTurn j k) × (r ≤ 2048) ⌝ }
 {
@@ -87,11 +87,11 @@ pub fn round_corner(before: Point, point: Point, after: Point, radius: u64) -> C
     requires { ⌜ (InArea before × (InArea point × InArea after)) × ((radius ≤ 10000) × (turnOf before point after ≤ 1792)) ⌝ }
     ensures { λ r. ⌜ (r ≡ cornerOf before point after radius) × IsCorner r ⌝ }
 {
-    let t = tangent_length(radius, turn_at(before, point, after));
     let a = plane::level_leg(before, point);
     let b = plane::level_leg(point, after);
     let j = course::bearing(a);
     let k = course::bearing(b);
+    let t = tangent_length(radius, lesser_turn(j, k));
     let right = turns_right(a, b);
     rounded(plane::level(point), j, k, right, radius, t)
 }
