@@ -8,12 +8,10 @@ use lib.ListN.{length, set, length-append}
 use Rattle.plane.specs.declared.Point.{Point}
 use Rattle.plan.specs.Limits.{mostPoints}
 use Rattle.plan.specs.Places.{noPoint, padded}
-use Rattle.records.specs.declared.Held.{Held}
-use Rattle.records.specs.declared.Next.{Next}
-use Rattle.records.specs.declared.Effect.{Effect}
-use Rattle.records.specs.declared.Effect.the-variants.{Nothing, AddPoint, SetRadius, AddCourse, Wrong, TooNew}
+use Rattle.records.specs.declared.Tally.{Tally}
+use Rattle.records.specs.declared.Gathered.{Gathered}
 use Rattle.records.specs.Kinds.{Parts, withPoint, withRadius, withCourse}
-use Rattle.records.specs.Held.{counted, heldOf, verdictOf, nextOf}
+use Rattle.records.specs.Held.{counted, tallyOf}
 
 -- ---- one more in an array
 pub padded-more : {A : Type 0} (n : ℕ) (d : A) (xs : List A) (x : A) → length xs < n → set (padded n d xs) (length xs) x ≡ padded n d (xs ++ (x ∷ []))
@@ -29,100 +27,79 @@ padded-full (suc n) d [] x h = absurd (omega arith)
 padded-full {A = A} (suc n) d (y ∷ xs) x h = ap (λ (l : List A). y ∷ l) (padded-full n d xs x (omega arith))
 
 module _ {A : Type 0} (d : A) (xs : List A) (x : A) where
-  module _ (room : counted (length xs) < mostPoints) where
-    stored-count : counted (length xs) + 1 ≡ counted (length (xs ++ (x ∷ [])))
-    stored-count = rw length-append (omega arith)
+  stored : counted (length xs) < mostPoints → set (padded mostPoints d xs) (counted (length xs)) x ≡ padded mostPoints d (xs ++ (x ∷ []))
+  stored room =
+      let e : counted (length xs) ≡ length xs = omega arith in
+      rw e (padded-more mostPoints d xs x (omega arith))
 
-    stored : set (padded mostPoints d xs) (counted (length xs)) x ≡ padded mostPoints d (xs ++ (x ∷ []))
-    stored =
-        let e : counted (length xs) ≡ length xs = omega arith in
-        rw e (padded-more mostPoints d xs x (omega arith))
+  over : mostPoints ≤ counted (length xs) → padded mostPoints d (xs ++ (x ∷ [])) ≡ padded mostPoints d xs
+  over full = padded-full mostPoints d xs x (omega arith)
 
-  module _ (full : mostPoints ≤ counted (length xs)) where
-    over-count : counted (length (xs ++ (x ∷ []))) ≡ mostPoints + 1
-    over-count = rw length-append (omega arith)
+-- ---- one more in a count
+counted-more : {A : Type 0} (xs : List A) (x : A) → counted (counted (length xs) + 1) ≡ counted (length (xs ++ (x ∷ [])))
+counted-more xs x = rw length-append (omega arith)
 
-    over : padded mostPoints d (xs ++ (x ∷ [])) ≡ padded mostPoints d xs
-    over = padded-full mostPoints d xs x (omega arith)
+-- ---- what the loop has stored: the arrays, with the counts left for the end
+abbrev pub storedOf : Parts → Gathered
+storedOf a =
+    record {
+      refusal = 0;
+      place = 0;
+      radius = 0;
+      count = 0;
+      given = 0;
+      points = padded mostPoints noPoint (a .points);
+      courses = padded mostPoints 0 (a .courses);
+    }
 
--- ---- what is held after one record more
-module _ (h : Held) (a : Parts) (shown : h ≡ heldOf a) where
-  same-count : h .count ≡ counted (length (a .points))
-  unfolding heldOf
-  same-count = ap (λ (x : Held). x .count) shown
+-- ---- the fields of a tally, and after one record more
+module _ {t : Tally} (a : Parts) (shown : t ≡ tallyOf a) where
+  pub same-radius : t .radius ≡ a .radius
+  unfolding tallyOf
+  same-radius = ap (λ (x : Tally). x .radius) shown
 
-  same-given : h .given ≡ counted (length (a .courses))
-  unfolding heldOf
-  same-given = ap (λ (x : Held). x .given) shown
+  pub same-count : t .count ≡ counted (length (a .points))
+  unfolding tallyOf
+  same-count = ap (λ (x : Tally). x .count) shown
 
-  pub point-stored : (p : Point) → h .count < mostPoints
-      → _≡_ {A = Held}
-      (record { radius = h .radius; count = h .count + 1; given = h .given; follows = true; points = set (h .points) (h .count) p; courses = h .courses })
-      (heldOf (withPoint a p))
-  unfolding heldOf
-  point-stored p l =
-      let k : counted (length (a .points)) < mostPoints = omega (arith, same-count) in
-      rw (shown, stored-count noPoint (a .points) p k, stored noPoint (a .points) p k)
+  same-given : t .given ≡ counted (length (a .courses))
+  unfolding tallyOf
+  same-given = ap (λ (x : Tally). x .given) shown
 
-  pub point-over : (p : Point) → mostPoints ≤ h .count
-      → _≡_ {A = Held}
-      (record { radius = h .radius; count = mostPoints + 1; given = h .given; follows = true; points = h .points; courses = h .courses })
-      (heldOf (withPoint a p))
-  unfolding heldOf
-  point-over p l =
-      let k : mostPoints ≤ counted (length (a .points)) = omega (arith, same-count) in
-      rw (shown, over-count noPoint (a .points) p k, over noPoint (a .points) p k)
+  pub same-follows : t .follows ≡ a .atPoint
+  unfolding tallyOf
+  same-follows = ap (λ (x : Tally). x .follows) shown
 
-  pub course-stored : (c : ℕ) → h .given < mostPoints
-      → _≡_ {A = Held}
-      (record { radius = h .radius; count = h .count; given = h .given + 1; follows = false; points = h .points; courses = set (h .courses) (h .given) c })
-      (heldOf (withCourse a c))
-  unfolding heldOf
-  course-stored c l =
-      let k : counted (length (a .courses)) < mostPoints = omega (arith, same-given) in
-      rw (shown, stored-count 0 (a .courses) c k, stored 0 (a .courses) c k)
+  pub point-tallied : (p : Point) {n : ℕ} → n ≡ counted (t .count + 1)
+      → _≡_ {A = Tally} (record { radius = t .radius; count = n; given = t .given; follows = true }) (tallyOf (withPoint a p))
+  unfolding tallyOf
+  point-tallied p e = rw (e, shown, counted-more (a .points) p)
 
-  pub course-over : (c : ℕ) → mostPoints ≤ h .given
-      → _≡_ {A = Held}
-      (record { radius = h .radius; count = h .count; given = mostPoints + 1; follows = false; points = h .points; courses = h .courses })
-      (heldOf (withCourse a c))
-  unfolding heldOf
-  course-over c l =
-      let k : mostPoints ≤ counted (length (a .courses)) = omega (arith, same-given) in
-      rw (shown, over-count 0 (a .courses) c k, over 0 (a .courses) c k)
+  pub radius-tallied : {n : ℕ}
+      → _≡_ {A = Tally} (record { radius = n; count = t .count; given = t .given; follows = false }) (tallyOf (withRadius a n))
+  unfolding tallyOf
+  radius-tallied = rw shown
 
-  pub radius-held : (n : ℕ)
-      → _≡_ {A = Held}
-      (record { radius = n; count = h .count; given = h .given; follows = false; points = h .points; courses = h .courses })
-      (heldOf (withRadius a n))
-  unfolding heldOf
-  radius-held n = rw shown
+  pub course-tallied : (c : ℕ) {n : ℕ} → n ≡ counted (t .given + 1)
+      → _≡_ {A = Tally} (record { radius = t .radius; count = t .count; given = n; follows = false }) (tallyOf (withCourse a c))
+  unfolding tallyOf
+  course-tallied c e = rw (e, shown, counted-more (a .courses) c)
 
--- ---- after an effect
-module _ (h : Held) (a : Parts) (at to : ℕ) (x : Effect) where
-  pub taken-nothing : h ≡ heldOf a → x ≡ Nothing → _≡_ {A = Next} (record { refusal = 0; at = to; held = h }) (nextOf h at to (verdictOf a x))
-  unfolding nextOf verdictOf
-  taken-nothing shown e = rw e (ap (λ (y : Held). record { refusal = 0; at = to; held = y }) shown)
+  module _ {g : Gathered} (kept : g ≡ storedOf a) where
+    pub point-stored : (p : Point) → t .count < mostPoints
+        → _≡_ {A = Gathered}
+        (record { refusal = g .refusal; place = g .place; radius = g .radius; count = g .count; given = g .given; points = set (g .points) (t .count) p; courses = g .courses })
+        (storedOf (withPoint a p))
+    point-stored p room = rw (kept, same-count, stored noPoint (a .points) p (rw same-count at room))
 
-  pub taken-point : (p : Point) (n : Held) → n ≡ heldOf (withPoint a p) → x ≡ AddPoint p
-      → _≡_ {A = Next} (record { refusal = 0; at = to; held = n }) (nextOf h at to (verdictOf a x))
-  unfolding nextOf verdictOf
-  taken-point p n k e = rw (e, k)
+    pub point-over : (p : Point) → mostPoints ≤ t .count → g ≡ storedOf (withPoint a p)
+    point-over p full = rw (kept, over noPoint (a .points) p (rw same-count at full))
 
-  pub taken-radius : (r : ℕ) (n : Held) → n ≡ heldOf (withRadius a r) → x ≡ SetRadius r
-      → _≡_ {A = Next} (record { refusal = 0; at = to; held = n }) (nextOf h at to (verdictOf a x))
-  unfolding nextOf verdictOf
-  taken-radius r n k e = rw (e, k)
+    pub course-stored : (c : ℕ) → t .given < mostPoints
+        → _≡_ {A = Gathered}
+        (record { refusal = g .refusal; place = g .place; radius = g .radius; count = g .count; given = g .given; points = g .points; courses = set (g .courses) (t .given) c })
+        (storedOf (withCourse a c))
+    course-stored c room = rw (kept, same-given, stored 0 (a .courses) c (rw same-given at room))
 
-  pub taken-course : (c : ℕ) (n : Held) → n ≡ heldOf (withCourse a c) → x ≡ AddCourse c
-      → _≡_ {A = Next} (record { refusal = 0; at = to; held = n }) (nextOf h at to (verdictOf a x))
-  unfolding nextOf verdictOf
-  taken-course c n k e = rw (e, k)
-
-  pub taken-wrong : x ≡ Wrong → _≡_ {A = Next} (record { refusal = 6; at = at; held = h }) (nextOf h at to (verdictOf a x))
-  unfolding nextOf verdictOf
-  taken-wrong e = rw e
-
-  pub taken-new : x ≡ TooNew → _≡_ {A = Next} (record { refusal = 7; at = at; held = h }) (nextOf h at to (verdictOf a x))
-  unfolding nextOf verdictOf
-  taken-new e = rw e
+    pub course-over : (c : ℕ) → mostPoints ≤ t .given → g ≡ storedOf (withCourse a c)
+    course-over c full = rw (kept, over 0 (a .courses) c (rw same-given at full))

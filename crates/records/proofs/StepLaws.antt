@@ -1,5 +1,5 @@
 -- One step of the walk by the bytes of a record, and what the whole walk gives from an offset on. Assumes nothing.
-use mathlib.Core.Path.{_≡_, refl, sym, ap, _∙_}
+use mathlib.Core.Path.{_≡_, sym, ap, _∙_}
 use mathlib.Core.List.{List}
 use Prim.Native.Nat.{ℕ, _+_, _-_, _≤_, _<_}
 use native.Mathlib.Nat.{add-sub-cancel-left}
@@ -9,17 +9,17 @@ use lib.ListN.{length, getD, take, drop, length-drop}
 use lib.Seq.{length-take-le}
 use borrow.Author.Tests.{leb-true, leb-false, le-leb, lt-leb}
 use Rattle.integers.proofs.ChooseLaws.{choose-true, choose-false}
-use Rattle.order.specs.Outcome.{good, refused}
+use Rattle.order.specs.Outcome.{good}
 use Rattle.order.proofs.Bools.{by-bool}
-use Rattle.records.specs.declared.Before.{Before}
+use Rattle.plane.specs.declared.Point.{Point}
 use Rattle.records.specs.declared.Effect.{Effect}
-use Rattle.records.specs.declared.Effect.the-variants.{Wrong}
-use Rattle.records.specs.declared.Held.{Held}
-use Rattle.records.specs.declared.Next.{Next}
+use Rattle.records.specs.declared.Effect.the-variants.{Nothing, AddPoint, SetRadius, AddCourse, Wrong, TooNew}
+use Rattle.records.specs.declared.Tally.{Tally}
 use Rattle.records.specs.declared.Gathered.{Gathered}
-use Rattle.records.specs.Kinds.{Parts, noParts, Verdict, takes, wrong, tooNew, judge}
+use Rattle.records.specs.Kinds.{Parts, noParts, withPoint, withRadius, withCourse, takes, wrong, judge}
 use Rattle.records.specs.Gather.{after, gather, gatherFrom, headerLength, endAt, bodyAt, wholeEnd, verdictAt}
-use Rattle.records.specs.Held.{beforeOf, heldOf, verdictOf, nextOf, stepOf, answerOf, gatheredOf}
+use Rattle.records.specs.Held.{tallyOf, verdictOf, answerOf, gatheredOf}
+use Rattle.records.proofs.HeldLaws.{storedOf}
 use Rattle.records.proofs.RuleLaws.{not-wrong}
 use Rattle.records.proofs.WalkLaws.{walk-at-end, walk-at-cut, walk-at-more}
 
@@ -94,76 +94,86 @@ module _ (r v : ℕ) (file : List ℕ) (at : ℕ) (a : Parts) where
   taken-inside b e =
       by-bool (leb (endAt file at) (length file)) (λ t. leb-true _ _ t) (λ t. not-wrong b (sym (verdict-cut (leb-false _ _ t)) ∙ e))
 
--- ---- what the code's step answers
-pub before-held : (h : Held) (a : Parts) → h ≡ heldOf a → _≡_ {A = Before} (record { radius = h .radius; count = h .count; follows = h .follows }) (beforeOf a)
-unfolding heldOf beforeOf
-before-held h a e = ap (λ (x : Held). record { radius = x .radius; count = x .count; follows = x .follows }) e
+  -- ---- what the code finds there
+  pub effect-cut : length file < endAt file at → verdictOf a Wrong ≡ verdictAt r v file at a
+  unfolding verdictOf
+  effect-cut l = sym (verdict-cut l)
 
-module _ (r v : ℕ) (file : List ℕ) (at : ℕ) (a : Parts) (h : Held) (x : Next) where
-  abbrev Steps : Type 0
-  Steps = x ≡ stepOf r v file at h a
-
-  pub step-cut : length file < endAt file at → x ≡ nextOf h at at (verdictOf a Wrong) → Steps
-  unfolding nextOf verdictOf
-  step-cut l k = k ∙ rw (verdict-cut r v file at a l)
-
-  pub step-whole : (to : ℕ) (e : Effect) → Whole file at to
-      → verdictOf a e ≡ judge r v (getD file at 0) (take (to - (at + 2)) (drop (at + 2) file)) a
-      → x ≡ nextOf h at to (verdictOf a e) → Steps
+  pub effect-whole : (to : ℕ) (x : Effect) → Whole file at to
+      → verdictOf a x ≡ judge r v (getD file at 0) (take (to - (at + 2)) (drop (at + 2) file)) a → verdictOf a x ≡ verdictAt r v file at a
   unfolding endAt bodyAt
-  step-whole to e w j k =
+  effect-whole to x w j =
       let p : take (to - (at + 2)) (drop (at + 2) file) ≡ bodyAt file at =
       ap (λ (n : ℕ). take (n - (at + 2)) (drop (at + 2) file)) (w .ends) ∙ rw (add-sub-cancel-left (at + 2) (getD file (at + 1) 0)) in
-      k ∙ rw (j, p, w .ends) (ap (nextOf h at (endAt file at)) (sym (verdict-whole r v file at a (rw (w .ends) at (w .inside)))))
+      j ∙ rw p (sym (verdict-whole (rw (w .ends) at (w .inside))))
 
 -- ---- the loop
-ends-after : (file : List ℕ) (at : ℕ) → at < endAt file at
-unfolding endAt
-ends-after file at = omega arith
+module _ (r v : ℕ) (file : List ℕ) (at : ℕ) (t : Tally) (g : Gathered) where
+  -- at an offset: some parts are gathered, and what is left to gather after them is what the whole walk gives
+  pub record Gathers : Type 0 where
+    pub parts : Parts
+    pub tallied : t ≡ tallyOf parts
+    pub stored : g ≡ storedOf parts
+    pub left : gatherFrom r v file at parts ≡ gatherFrom r v file headerLength noParts
 
-pub record Goes (r v : ℕ) (file : List ℕ) (at : ℕ) (a : Parts) (x : Next) : Type 0 where
-  pub parts : Parts
-  pub held : x .held ≡ heldOf parts
-  pub same : gatherFrom r v file at a ≡ gatherFrom r v file (x .at) parts
-  pub inside : x .at ≤ length file
-  pub further : at < x .at
+  -- the record that stands there ends at `to`, and has the effect x
+  pub record Turn (to : ℕ) (x : Effect) : Type 0 where
+    pub so-far : Gathers
+    pub inside : at < length file
+    pub ends : to ≡ wholeEnd file at
+    pub judged : verdictOf (so-far .parts) x ≡ verdictAt r v file at (so-far .parts)
 
-module _ (r v : ℕ) (file : List ℕ) (at : ℕ) (a : Parts) (h : Held) (x : Next) (inside : at < length file) where
-  goes-by : (d : Verdict) → verdictAt r v file at a ≡ d → x ≡ nextOf h at (endAt file at) d → x .refusal ≡ 0 → Goes r v file at a x
-  unfolding nextOf after
-  goes-by (takes b) e k z =
-      let to : x .at ≡ endAt file at = ap (λ (y : Next). y .at) k in
-      record {
-        parts = b;
-        held = ap (λ (y : Next). y .held) k;
-        same = rw to (gather-step r v file at a inside ∙ rw e);
-        inside = rw to (taken-inside r v file at a b e);
-        further = rw to (ends-after file at);
-      }
-  goes-by wrong e k z = let n : x .refusal ≡ 6 = ap (λ (y : Next). y .refusal) k in absurd (omega arith)
-  goes-by tooNew e k z = let n : x .refusal ≡ 7 = ap (λ (y : Next). y .refusal) k in absurd (omega arith)
+-- what a turn takes in
+module _ (a : Parts) {x : Effect} where
+  pub takes-nothing : x ≡ Nothing → verdictOf a x ≡ takes a
+  unfolding verdictOf
+  takes-nothing e = rw e
 
-  stops-by : (d : Verdict) → verdictAt r v file at a ≡ d → x ≡ nextOf h at (endAt file at) d → (x .refusal ≡ 0 → ⊥)
-      → gatherFrom r v file at a ≡ refused (x .refusal) (x .at)
-  unfolding nextOf after
-  stops-by (takes b) e k z = absurd (z (ap (λ (y : Next). y .refusal) k))
-  stops-by wrong e k z = gather-step r v file at a inside ∙ rw (e, k)
-  stops-by tooNew e k z = gather-step r v file at a inside ∙ rw (e, k)
+  pub takes-point : {p : Point} → x ≡ AddPoint p → verdictOf a x ≡ takes (withPoint a p)
+  unfolding verdictOf
+  takes-point e = rw e
 
-  pub goes : Steps r v file at a h x → x .refusal ≡ 0 → Goes r v file at a x
-  goes k z = goes-by (verdictAt r v file at a) refl k z
+  pub takes-radius : {n : ℕ} → x ≡ SetRadius n → verdictOf a x ≡ takes (withRadius a n)
+  unfolding verdictOf
+  takes-radius e = rw e
 
-  pub stops : Steps r v file at a h x → (x .refusal ≡ 0 → ⊥) → gatherFrom r v file at a ≡ refused (x .refusal) (x .at)
-  stops k z = stops-by (verdictAt r v file at a) refl k z
+  pub takes-course : {c : ℕ} → x ≡ AddCourse c → verdictOf a x ≡ takes (withCourse a c)
+  unfolding verdictOf
+  takes-course e = rw e
 
--- the answer, from what is left of the walk
-module _ (r v : ℕ) (file : List ℕ) (at : ℕ) (a : Parts) (left : gatherFrom r v file at a ≡ gatherFrom r v file headerLength noParts) where
-  pub all-refused : (n p : ℕ) (h : Held) (x : Gathered) → gatherFrom r v file at a ≡ refused n p → h ≡ heldOf noParts → x ≡ answerOf n p h
-      → x ≡ gatheredOf (gatherFrom r v file headerLength noParts)
-  unfolding gatheredOf
-  all-refused n p h x e k q = q ∙ ap (answerOf n p) k ∙ ap gatheredOf (sym e ∙ left)
+module _ {r v : ℕ} {file : List ℕ} {at : ℕ} {t : Tally} {g : Gathered} where
+  module _ {to : ℕ} {x : Effect} (n : Turn r v file at t g to x) where
+    onward : gatherFrom r v file headerLength noParts ≡ after (verdictOf (n .so-far .parts) x) at (λ (b : Parts). gatherFrom r v file (endAt file at) b)
+    onward = sym (n .so-far .left) ∙ gather-step r v file at (n .so-far .parts) (n .inside) ∙ rw (n .judged)
 
-  pub all-gathered : (h : Held) (x : Gathered) → length file ≤ at → h ≡ heldOf a → x ≡ answerOf 0 0 h
-      → x ≡ gatheredOf (gatherFrom r v file headerLength noParts)
-  unfolding gatheredOf
-  all-gathered h x l k q = q ∙ ap (answerOf 0 0) k ∙ ap gatheredOf (sym (gather-end r v file at a l) ∙ left)
+    -- the walk goes on after the record
+    module _ {b : Parts} (taken : verdictOf (n .so-far .parts) x ≡ takes b) where
+      ends-there : to ≡ endAt file at
+      unfolding wholeEnd
+      ends-there =
+          n .ends ∙ choose-true _ _ _ (le-leb _ _ (taken-inside r v file at (n .so-far .parts) b (sym (n .judged) ∙ taken)))
+
+      pub further : length file - to < length file - at
+      unfolding endAt
+      further = omega (arith, ends-there, n .inside)
+
+      pub again : {u : Tally} {h : Gathered} → u ≡ tallyOf b → h ≡ storedOf b → Gathers r v file to u h
+      unfolding after
+      again k m = record { parts = b; tallied = k; stored = m; left = rw ends-there (sym (onward ∙ rw taken)) }
+
+    -- the record is refused
+    pub all-wrong : x ≡ Wrong → gatheredOf (gatherFrom r v file headerLength noParts) ≡ answerOf 6 at noParts
+    unfolding gatheredOf verdictOf after
+    all-wrong e = rw (onward, e)
+
+    pub all-new : x ≡ TooNew → gatheredOf (gatherFrom r v file headerLength noParts) ≡ answerOf 7 at noParts
+    unfolding gatheredOf verdictOf after
+    all-new e = rw (onward, e)
+
+  -- the walk is at its end
+  pub all-gathered : (i : Gathers r v file at t g) → length file ≤ at
+      → _≡_ {A = Gathered}
+      (record { refusal = g .refusal; place = g .place; radius = t .radius; count = t .count; given = t .given; points = g .points; courses = g .courses })
+      (gatheredOf (gatherFrom r v file headerLength noParts))
+  unfolding gatheredOf tallyOf
+  all-gathered i l = rw (← i .left, gather-end r v file at (i .parts) l, i .stored, i .tallied)

@@ -5,13 +5,13 @@ use plan::MOST_RADIUS;
 use plan::POINTS;
 use plane::Point;
 ghost use mathlib.Core.Path.{_≡_};
-ghost use Prim.Native.Nat.{_<_};
-ghost use lib.ListN.{length, getD};
+ghost use Prim.Native.Nat.{ℕ, _+_};
+ghost use lib.ListN.{getD};
 ghost use mir.Syntax.{w32};
 ghost use mir.Val.{toZ};
 ghost use Rattle.records.specs.Numbers.{u16At, u32At, i32At};
-ghost use Rattle.records.specs.Gather.{headerLength, gatherFrom, wholeEnd};
-ghost use Rattle.records.specs.Held.{beforeOf, verdictOf, heldOf, nextOf, stepOf, answerOf, gatheredOf};
+ghost use Rattle.records.specs.Gather.{headerLength, gatherFrom, wholeEnd, verdictAt};
+ghost use Rattle.records.specs.Held.{counted, tallyOf, verdictOf, answerOf, gatheredOf};
 ghost use Rattle.records.specs.Kinds.{rowOf, knows, between, Parts, noParts, withPoint, withRadius, withCourse, pointOf, pointRule, radiusRule, courseRule, optionalRule, valueRule, knownRule, unknownRule, judge};
 
 // The first three bytes of a file, "WPL".
@@ -126,29 +126,13 @@ enum Effect {
     TooNew,
 }
 
-// What the rules ask of the records before: the radius, 0 for none; the points, counted up to one more than a plan holds; whether the last
-// record, optional ones left out, is a point.
-struct Before {
-    radius: u16,
-    count: usize,
-    follows: bool,
-}
-
-// What the records so far give. Points and courses past a plan's places are counted, up to one, and not stored.
-struct Held {
+// What the records so far give, without the points and courses themselves: the radius, 0 for none; the points and the courses, each counted up
+// to one more than a plan holds; whether the last record, optional ones left out, is a point.
+struct Tally {
     radius: u16,
     count: usize,
     given: usize,
     follows: bool,
-    points: [Point; POINTS],
-    courses: [u16; POINTS],
-}
-
-// A refusal at an offset, or 0 and the offset to go on at.
-struct Next {
-    refusal: u8,
-    at: usize,
-    held: Held,
 }
 
 // What a file's records give, or a refusal with its place and nothing else.
@@ -261,8 +245,8 @@ fn point_of(body: &[u8]) -> Point
 }
 
 // A radius: at most once, before the first point.
-fn radius_rule(body: &[u8], before: Before) -> Effect
-    ensures { λ x. ⌜ ((a : Parts) → before ≡ beforeOf a → verdictOf a x ≡ radiusRule (now (body .entry)) a) ⌝ }
+fn radius_rule(body: &[u8], before: Tally) -> Effect
+    ensures { λ x. ⌜ ((a : Parts) → before ≡ tallyOf a → verdictOf a x ≡ radiusRule (now (body .entry)) a) ⌝ }
 {
     let radius = u16_at(body, 0);
     if between(LEAST_RADIUS as usize, MOST_RADIUS as usize, radius as usize) {
@@ -276,8 +260,8 @@ fn radius_rule(body: &[u8], before: Before) -> Effect
 }
 
 // A course: after a point.
-fn course_rule(body: &[u8], before: Before) -> Effect
-    ensures { λ x. ⌜ ((a : Parts) → before ≡ beforeOf a → verdictOf a x ≡ courseRule (now (body .entry)) a) ⌝ }
+fn course_rule(body: &[u8], before: Tally) -> Effect
+    ensures { λ x. ⌜ ((a : Parts) → before ≡ tallyOf a → verdictOf a x ≡ courseRule (now (body .entry)) a) ⌝ }
 {
     let course = u16_at(body, 0);
     if course < COURSES {
@@ -312,8 +296,8 @@ fn point_rule(body: &[u8]) -> Effect
 }
 
 // The rule of a kind on value and position.
-fn value_rule(kind: u8, body: &[u8], before: Before) -> Effect
-    ensures { λ x. ⌜ ((a : Parts) → before ≡ beforeOf a → verdictOf a x ≡ valueRule kind (now (body .entry)) a) ⌝ }
+fn value_rule(kind: u8, body: &[u8], before: Tally) -> Effect
+    ensures { λ x. ⌜ ((a : Parts) → before ≡ tallyOf a → verdictOf a x ≡ valueRule kind (now (body .entry)) a) ⌝ }
 {
     if OPTIONAL <= kind {
         return optional_rule(kind, body);
@@ -328,8 +312,8 @@ fn value_rule(kind: u8, body: &[u8], before: Before) -> Effect
 }
 
 // A kind that the reader knows. The reader's version does not enter.
-fn known_rule(version: u16, kind: u8, body: &[u8], before: Before) -> Effect
-    ensures { λ x. ⌜ ((a : Parts) → before ≡ beforeOf a → verdictOf a x ≡ knownRule version kind (now (body .entry)) a) ⌝ }
+fn known_rule(version: u16, kind: u8, body: &[u8], before: Tally) -> Effect
+    ensures { λ x. ⌜ ((a : Parts) → before ≡ tallyOf a → verdictOf a x ≡ knownRule version kind (now (body .entry)) a) ⌝ }
 {
     let row = row_of(kind);
     if row.since <= version {
@@ -354,8 +338,8 @@ fn unknown_rule(reader: u32, version: u16, kind: u8) -> Effect
 }
 
 // What a whole record does.
-fn effect_of(reader: u32, version: u16, kind: u8, body: &[u8], before: Before) -> Effect
-    ensures { λ x. ⌜ ((a : Parts) → before ≡ beforeOf a → verdictOf a x ≡ judge reader version kind (now (body .entry)) a) ⌝ }
+fn effect_of(reader: u32, version: u16, kind: u8, body: &[u8], before: Tally) -> Effect
+    ensures { λ x. ⌜ ((a : Parts) → before ≡ tallyOf a → verdictOf a x ≡ judge reader version kind (now (body .entry)) a) ⌝ }
 {
     if knows(reader, kind) {
         return known_rule(version, kind, body, before);
@@ -364,102 +348,55 @@ fn effect_of(reader: u32, version: u16, kind: u8, body: &[u8], before: Before) -
 }
 
 // Before the first record.
-fn nothing_held() -> Held
-    ensures { λ r. ⌜ r ≡ heldOf noParts ⌝ }
+fn nothing_tallied() -> Tally
+    ensures { λ r. ⌜ r ≡ tallyOf noParts ⌝ }
 {
-    let none = Point {
-        north: 0,
-        east: 0,
-        down: 0,
-    };
-    Held {
+    Tally {
         radius: 0,
         count: 0,
         given: 0,
         follows: false,
-        points: [none; POINTS],
-        courses: [0u16; POINTS],
     }
 }
 
-// One point more: stored where there is a place for it, and counted.
-fn with_point(held: Held, point: Point) -> Held
-    ensures { λ r. ⌜ ((a : Parts) → held ≡ heldOf a → r ≡ heldOf (withPoint a point)) ⌝ }
+// A count and one more, up to one more than a plan holds.
+fn one_more(n: usize) -> usize
+    ensures { λ r. ⌜ r ≡ counted (n + 1) ⌝ }
 {
-    let count = held.count;
-    let mut next = held;
-    next.follows = true;
-    if count < POINTS {
-        next.points[count] = point;
-        next.count = count + 1;
-        return next;
+    if n < POINTS {
+        return n + 1;
     }
-    next.count = POINTS + 1;
+    POINTS + 1
+}
+
+// One point more, after which a course may follow.
+fn with_point(before: Tally) -> Tally
+    ensures { λ r. ⌜ ((a : Parts) (p : Point) → before ≡ tallyOf a → r ≡ tallyOf (withPoint a p)) ⌝ }
+{
+    let mut next = before;
+    next.count = one_more(before.count);
+    next.follows = true;
     next
 }
 
 // A radius, after which no course may follow.
-fn with_radius(held: Held, radius: u16) -> Held
-    ensures { λ r. ⌜ ((a : Parts) → held ≡ heldOf a → r ≡ heldOf (withRadius a radius)) ⌝ }
+fn with_radius(before: Tally, radius: u16) -> Tally
+    ensures { λ r. ⌜ ((a : Parts) → before ≡ tallyOf a → r ≡ tallyOf (withRadius a radius)) ⌝ }
 {
-    let mut next = held;
+    let mut next = before;
     next.radius = radius;
     next.follows = false;
     next
 }
 
-// One course more: stored where there is a place for it, and counted.
-fn with_course(held: Held, course: u16) -> Held
-    ensures { λ r. ⌜ ((a : Parts) → held ≡ heldOf a → r ≡ heldOf (withCourse a course)) ⌝ }
+// One course more, after which no other may follow.
+fn with_course(before: Tally) -> Tally
+    ensures { λ r. ⌜ ((a : Parts) (c : ℕ) → before ≡ tallyOf a → r ≡ tallyOf (withCourse a c)) ⌝ }
 {
-    let given = held.given;
-    let mut next = held;
+    let mut next = before;
+    next.given = one_more(before.given);
     next.follows = false;
-    if given < POINTS {
-        next.courses[given] = course;
-        next.given = given + 1;
-        return next;
-    }
-    next.given = POINTS + 1;
     next
-}
-
-// After the record from one offset to another: what is held then, or a refusal at the first.
-fn taken(held: Held, effect: Effect, at: usize, to: usize) -> Next
-    ensures { λ x. ⌜ ((a : Parts) → held ≡ heldOf a → x ≡ nextOf held at to (verdictOf a effect)) ⌝ }
-{
-    match effect {
-        Effect::Nothing => Next {
-            refusal: 0,
-            at: to,
-            held,
-        },
-        Effect::AddPoint(point) => Next {
-            refusal: 0,
-            at: to,
-            held: with_point(held, point),
-        },
-        Effect::SetRadius(radius) => Next {
-            refusal: 0,
-            at: to,
-            held: with_radius(held, radius),
-        },
-        Effect::AddCourse(course) => Next {
-            refusal: 0,
-            at: to,
-            held: with_course(held, course),
-        },
-        Effect::Wrong => Next {
-            refusal: WRONG,
-            at,
-            held,
-        },
-        Effect::TooNew => Next {
-            refusal: TOO_NEW,
-            at,
-            held,
-        },
-    }
 }
 
 // Where the record at an offset ends, or 0 where it is cut short.
@@ -480,58 +417,75 @@ pub fn end_at(file: &[u8], at: usize) -> usize
     from + size
 }
 
-// One record, at an offset below the end.
-fn step(file: &[u8], reader: u32, version: u16, at: usize, held: Held) -> Next
-    requires { ⌜ at < length (now file) ⌝ }
-    ensures { λ x. ⌜ ((a : Parts) → held ≡ heldOf a → x ≡ stepOf reader version (now (file .entry)) at held a) ⌝ }
+// What the record at an offset does. It ends at the other, or is cut short where that is 0.
+fn effect_at(file: &[u8], reader: u32, version: u16, at: usize, to: usize, before: Tally) -> Effect
+    requires { ⌜ to ≡ wholeEnd (now file) at ⌝ }
+    ensures { λ x. ⌜ ((a : Parts) → before ≡ tallyOf a → verdictOf a x ≡ verdictAt reader version (now (file .entry)) at a) ⌝ }
 {
-    let to = end_at(file, at);
     if to == 0 {
-        return taken(held, Effect::Wrong, at, at);
+        return Effect::Wrong;
     }
-    let before = Before {
-        radius: held.radius,
-        count: held.count,
-        follows: held.follows,
-    };
     let from = at + HEAD;
-    let effect = effect_of(reader, version, file[at], &file[from..to], before);
-    taken(held, effect, at, to)
+    effect_of(reader, version, file[at], &file[from..to], before)
 }
 
-// What is held, as the answer.
-fn answer(refusal: u8, place: usize, held: Held) -> Gathered
-    ensures { λ r. ⌜ r ≡ answerOf refusal place held ⌝ }
+// An answer with no points and no courses, for a refusal or to begin with.
+fn nothing_gathered(refusal: u8, place: usize) -> Gathered
+    ensures { λ r. ⌜ r ≡ answerOf refusal place noParts ⌝ }
 {
-    let points = held.points;
-    let courses = held.courses;
+    let none = Point {
+        north: 0,
+        east: 0,
+        down: 0,
+    };
     Gathered {
         refusal,
         place,
-        radius: held.radius,
-        count: held.count,
-        given: held.given,
-        points,
-        courses,
+        radius: 0,
+        count: 0,
+        given: 0,
+        points: [none; POINTS],
+        courses: [0u16; POINTS],
     }
 }
 
-// What a file's records give to a reader, or the first refusal of one.
+// What a file's records give to a reader, or the first refusal of one. Points and courses past a plan's places are counted, up to one, and not
+// stored. The others are stored where the answer has them: the arrays are large, and a copy for each record would cost more than reading it.
 pub fn gather(file: &[u8], reader: u32, version: u16) -> Gathered
     ensures { λ r. ⌜ r ≡ gatheredOf (gatherFrom reader version (now (file .entry)) headerLength noParts) ⌝ }
 {
     let mut at: usize = HEADER;
-    let mut held = nothing_held();
+    let mut tally = nothing_tallied();
+    let mut gathered = nothing_gathered(0, 0);
     while at < file.len() {
-        let next = step(file, reader, version, at, held);
-        let refusal = next.refusal;
-        let to = next.at;
-        if refusal != 0 {
-            return answer(refusal, to, nothing_held());
+        let to = end_at(file, at);
+        let effect = effect_at(file, reader, version, at, to, tally);
+        match effect {
+            Effect::Nothing => {}
+            Effect::AddPoint(point) => {
+                let count = tally.count;
+                tally = with_point(tally);
+                if count < POINTS {
+                    gathered.points[count] = point;
+                }
+            }
+            Effect::SetRadius(radius) => {
+                tally = with_radius(tally, radius);
+            }
+            Effect::AddCourse(course) => {
+                let given = tally.given;
+                tally = with_course(tally);
+                if given < POINTS {
+                    gathered.courses[given] = course;
+                }
+            }
+            Effect::Wrong => return nothing_gathered(WRONG, at),
+            Effect::TooNew => return nothing_gathered(TOO_NEW, at),
         }
-        let more = next.held;
-        held = more;
         at = to;
     }
-    answer(0, 0, held)
+    gathered.radius = tally.radius;
+    gathered.count = tally.count;
+    gathered.given = tally.given;
+    gathered
 }

@@ -32,7 +32,7 @@ use Rattle.manager.specs.State.{emptyState, startOf}
 use Rattle.records.specs.Kinds.{newest, between, Parts, noParts}
 use Rattle.records.specs.Gather.{headerLength, gatherFrom, InRange}
 use Rattle.records.specs.declared.Gathered.{Gathered}
-use Rattle.records.specs.Held.{counted, heldOf, gatheredOf}
+use Rattle.records.specs.Held.{counted, gatheredOf}
 use Rattle.records.specs.Walk.{walk}
 use Rattle.records.proofs.GatherLaws.{gather-ranged, none-ranged, gather-proper, gathered-good, gathered-refused}
 use Rattle.wpl.specs.declared.Loaded.{Loaded}
@@ -231,7 +231,7 @@ module _ (serial : ℕ) (g : Gathered) (mode : Mode) where
 
   module _ (fits : mode ≡ modeOf (g .radius) (g .given)) (a : Parts) (e : g ≡ gatheredOf (good a)) where
     made : planFrom ≡ heldPlan serial a
-    unfolding gatheredOf heldOf
+    unfolding gatheredOf
     made = rw (fits, e)
 
     pub made-bounded : InRange a → Bounded planFrom
@@ -239,7 +239,7 @@ module _ (serial : ℕ) (g : Gathered) (mode : Mode) where
 
     module _ (found : Refusal) (k : found ≡ refusalOf (rulesOf planFrom (g .given))) where
       judged : found ≡ refusalOf (rulesIn a)
-      unfolding gatheredOf heldOf
+      unfolding gatheredOf
       judged = k ∙ (λ i. refusalOf (rulesOf (made i) (e i .given))) ∙ ap refusalOf (rules-held serial a)
 
       pub finish-refused : (found .number ≡ 0 → ⊥) → finishOf serial a ≡ refused (found .number) (found .place)
