@@ -115,19 +115,18 @@ fn take_points(words: &[u32]) -> [Point; plan::POINTS]
     points
 }
 
-// Whether each course fits its type.
+// Whether each course fits its type. What is over is summed: without a way out of the loop the compiler takes several courses at once.
 fn courses_fit(words: &[u32]) -> bool
     requires { ⌜ stateLength ≤ length (now words) ⌝ }
     ensures { λ r. ⌜ r ≡ every (courseStored (now (words .entry))) mostPoints 0 ⌝ }
 {
+    let mut over: u32 = 0;
     let mut i: usize = 0;
     while i < plan::POINTS {
-        if TWO_BYTES <= words[COURSES + i] {
-            return false;
-        }
+        over += words[COURSES + i] / TWO_BYTES;
         i += 1;
     }
-    true
+    over == 0
 }
 
 // All courses of words that hold a state.

@@ -1,40 +1,58 @@
--- `courses_fit` decides whether each course fits its type. Assumes nothing.
-use mathlib.Core.Path.{_≡_, sym, _∙_}
-use Prim.Native.Nat.{_-_}
-use borrow.Author.Tests.{lt-ltb, le-ltb}
+-- `courses_fit` decides whether each course fits its type: nothing is over so far exactly where all courses so far fit. Assumes nothing.
+use mathlib.Core.Path.{_≡_, refl, sym, _∙_, ap}
+use mathlib.Core.Bool.{Bool, true, false}
+use Prim.Native.Nat.{ℕ, _+_, _-_, _*_, _/_, _≤_, _<_}
+use native.Mathlib.Omega.{arith}
+use lib.Dec.{eqb, ltb}
+use borrow.Author.Tests.{ltb-true, ltb-false, ne-eqb}
 use borrow.Author.Needs.{needs}
-use Rattle.order.specs.Sweep.{every}
+use Rattle.order.specs.Sweep.{both, every}
+use Rattle.order.proofs.Bools.{both-on, both-off, both-off-second}
 use Rattle.order.proofs.SweepLaws.{every-stop, every-next, every-hit}
 use Rattle.plan.specs.Limits.{mostPoints}
 use Rattle.states.specs.Stored.{courseAt, courseStored}
 use Rattle.states.proofs.courses_fit.Statement.{statement}
 use Rattle.states.proofs.courses_fit.Tie as tie
 
+both-last : (a b : Bool) → b ≡ true → both a b ≡ a
+unfolding both
+both-last true b t = t
+both-last false b t = refl
+
+-- what is over so far, and all that is still to be asked
+abbrev Left : (ℕ → Bool) → ℕ → ℕ → Bool
+Left stored over i = both (eqb over 0) (every stored (mostPoints - i) i)
+
 abbrev Inv-loop : tie.InvT-loop
-Inv-loop words i₀ i = every (courseStored words) mostPoints 0 ≡ every (courseStored words) (mostPoints - i) i
+Inv-loop words over₀ i₀ over i = (over ≤ 65535 * i) × (every (courseStored words) mostPoints 0 ≡ Left (courseStored words) over i)
 
 abbrev μ-loop : tie.MeasureT-loop
-μ-loop words i₀ i = mostPoints - i
+μ-loop words over₀ i₀ over i = mostPoints - i
+
+-- a word more, w
+more : (stored : ℕ → Bool) (over i w : ℕ) → i < mostPoints → (t : Bool) → ltb w 65536 ≡ t → stored i ≡ t → Left stored over i ≡ Left stored (over + w / 65536) (i + 1)
+more stored over i w h true e f =
+    let none : over + w / 65536 ≡ over = omega (arith, ltb-true w 65536 e) in
+    ap (both (eqb over 0)) (every-next stored mostPoints i h f) ∙ ap (λ (n : ℕ). both (eqb n 0) (every stored (mostPoints - (i + 1)) (i + 1))) (sym none)
+more stored over i w h false e f =
+    let some : over + w / 65536 ≡ 0 → ⊥ = λ k. omega (arith, ltb-false w 65536 e, k) in
+    both-off-second (eqb over 0) (every stored (mostPoints - i) i) (every-hit stored mostPoints i h f)
+    ∙ sym (both-off (eqb (over + w / 65536) 0) (every stored (mostPoints - (i + 1)) (i + 1)) (ne-eqb (over + w / 65536) 0 some))
 
 loop-holds : tie.Need-loop-holds Inv-loop μ-loop
-loop-holds c = search needs
+loop-holds c = (omega arith, sym (both-on _ _ refl))
 
-add-if1 : tie.Need-add-if1 Inv-loop μ-loop
-add-if1 c = search needs
+add-over : tie.Need-add-over Inv-loop μ-loop
+add-over c = search needs
 
-mul-if1 : tie.Need-mul-if1 Inv-loop μ-loop
-mul-if1 c = search needs
+mul-over : tie.Need-mul-over Inv-loop μ-loop
+mul-over c = search needs
 
-shared-slice-read-if1 : tie.Need-shared-slice-read-if1 Inv-loop μ-loop
-shared-slice-read-if1 c = search needs
+shared-slice-read-over : tie.Need-shared-slice-read-over Inv-loop μ-loop
+shared-slice-read-over c = search needs
 
-returns : tie.Need-returns Inv-loop μ-loop
-unfolding courseStored courseAt
-returns c =
-    let t = c .before .before in
-    let l = t .before in
-    let stored = courseStored (l .before .args .words .now) in
-    sym (l .loop .inv ∙ every-hit stored mostPoints (l .loop .i) (t .loop-test .taken) (le-ltb _ _ (c .if1 .taken)))
+add-over-2 : tie.Need-add-over-2 Inv-loop μ-loop
+add-over-2 c = omega (arith, c .shared-slice-known .given (199 + c .before .before .loop .i))
 
 add-i : tie.Need-add-i Inv-loop μ-loop
 add-i c = search needs
@@ -45,15 +63,16 @@ loop-less c = search needs
 loop-again : tie.Need-loop-again Inv-loop μ-loop
 unfolding courseStored courseAt
 loop-again c =
-    let t = c .before .before in
+    let t = c .before in
     let l = t .before in
     let stored = courseStored (l .before .args .words .now) in
-    l .loop .inv ∙ every-next stored mostPoints (l .loop .i) (t .loop-test .taken) (lt-ltb _ _ (c .if1 .left))
+    (omega (arith, c .shared-slice-known .given (199 + l .loop .i)), l .loop .inv .1 ∙ more stored (l .loop .over) (l .loop .i) _ (t .loop-test .taken) _ refl refl)
 
-returns-2 : tie.Need-returns-2 Inv-loop μ-loop
-returns-2 c =
+returns : tie.Need-returns Inv-loop μ-loop
+returns c =
     let l = c .before in
-    sym (l .loop .inv ∙ every-stop (courseStored (l .before .args .words .now)) mostPoints (l .loop .i) (c .loop-test .left))
+    let stored = courseStored (l .before .args .words .now) in
+    sym (l .loop .inv .1 ∙ both-last _ _ (every-stop stored mostPoints (l .loop .i) (c .loop-test .left)))
 
 pub courses-fit-spec : {M : Type 1} → statement M
 courses-fit-spec =
@@ -62,11 +81,11 @@ courses-fit-spec =
     Inv-loop
     μ-loop
     loop-holds
-    add-if1
-    mul-if1
-    shared-slice-read-if1
-    returns
+    add-over
+    mul-over
+    shared-slice-read-over
+    add-over-2
     add-i
     loop-less
     loop-again
-    returns-2)
+    returns)
