@@ -1,7 +1,7 @@
 /* The path manager, for C99 and C++.
  *
  * rt staticlib autopilot    writes target/staticlib/libautopilot.a: load, fix and write
- * rt staticlib desk         writes target/staticlib/libdesk.a: the refusal number of a file
+ * rt staticlib desk         writes target/staticlib/libdesk.a: the refusal number of a file, and its notes
  *
  * Every function answers a refusal number, 0 for none, whatever it is given. It reads and writes the memory that it is lent, up to the lengths
  * that it is told, and no other; it keeps nothing between calls and uses no heap. What each one writes is said below and is proved.
@@ -65,6 +65,12 @@ enum farnkuppel_refusal_number {
 /* The answer to a write: refusal, place, the file's length. */
 #define FARNKUPPEL_WRITE_WORDS 3
 
+/* The answer to a note: the number of its bytes, 0 where there is none. */
+#define FARNKUPPEL_NOTE_WORDS 1
+
+/* The most bytes that a note has. */
+#define FARNKUPPEL_NOTE_BYTES 32
+
 /* The answer to a fix: so many words, at these places. */
 #define FARNKUPPEL_ANSWER_WORDS 8
 #define FARNKUPPEL_ANSWER_REFUSAL 0
@@ -97,6 +103,12 @@ uint32_t farnkuppel_write(const uint32_t *state, size_t state_length, uint32_t v
 
 /* The number of the first refusal of a plan file for a reader of a version, 0 if it loads. Reads `file`, and writes nothing. */
 uint32_t farnkuppel_refusal(const uint8_t *file, size_t length, uint32_t reader);
+
+/* A note of a plan file, by its number from 1. Reads `file`; writes the note's bytes at the front of `note`, which has room for
+ * FARNKUPPEL_NOTE_BYTES, and the first FARNKUPPEL_NOTE_WORDS of `answer`. There are no bytes where the newest reader refuses the file or it has
+ * no such note; neither is a refusal. */
+uint32_t farnkuppel_note(const uint8_t *file, size_t file_length, uint32_t number, uint8_t *note, size_t note_length, uint32_t *answer,
+                         size_t answer_length);
 
 #ifdef __cplusplus
 }

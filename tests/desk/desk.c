@@ -1,5 +1,6 @@
-/* The desk's check from C: a line for each file and reader, the name, the reader and the refusal number.
- * Every file is written out below; its expected number in `expected` is read off the table of refusals. */
+/* The desk's functions from C. A line for each file and reader: the name, the reader and the refusal number. A line for each file and note:
+ * the name, the note's number, the result, the answer (- where it was not written) and the lent buffer, which held a dot at every byte.
+ * Every file is written out below; what is expected is read off document 01's tables and its sentence on notes. */
 #include "farnkuppel.h"
 
 #include <inttypes.h>
@@ -52,16 +53,65 @@ static void pair(unsigned kind, unsigned value)
     put(value, 2);
 }
 
-/* The function gets its own copy of exactly the file's bytes, so that a read past them is seen by a checker of memory. */
-static void ask(const char *name, uint32_t reader)
+static void note(const char *text)
 {
-    uint8_t *copy = length ? malloc(length) : NULL;
-    if (length && !copy)
+    size_t bytes = strlen(text);
+    put(128, 1);
+    put((unsigned)bytes, 1);
+    memcpy(file + length, text, bytes);
+    length += bytes;
+}
+
+/* Memory of exactly so many bytes, so that an access past them is seen by a checker of memory. */
+static void *exactly(size_t bytes)
+{
+    void *memory = bytes ? malloc(bytes) : NULL;
+    if (bytes && !memory)
         exit(2);
+    return memory;
+}
+
+static uint8_t *copy_of_file(void)
+{
+    uint8_t *copy = exactly(length);
     if (length)
         memcpy(copy, file, length);
+    return copy;
+}
+
+static void ask(const char *name, uint32_t reader)
+{
+    uint8_t *copy = copy_of_file();
     printf("%s %" PRIu32 " %" PRIu32 "\n", name, reader, farnkuppel_refusal(copy, length, reader));
     free(copy);
+}
+
+static void ask_note_of(const char *name, uint32_t number, size_t room, size_t words)
+{
+    uint8_t *copy = copy_of_file();
+    uint8_t *buffer = exactly(room);
+    uint32_t *answer = exactly(words * sizeof *answer);
+    if (room)
+        memset(buffer, '.', room);
+    if (words)
+        answer[0] = UINT32_MAX;
+    printf("%s %" PRIu32, name, number);
+    printf(" %" PRIu32, farnkuppel_note(copy, length, number, buffer, room, answer, words));
+    if (words && answer[0] != UINT32_MAX)
+        printf(" %" PRIu32, answer[0]);
+    else
+        printf(" -");
+    if (room)
+        printf(" %.*s", (int)room, (const char *)buffer);
+    printf("\n");
+    free(answer);
+    free(buffer);
+    free(copy);
+}
+
+static void ask_note(const char *name, uint32_t number)
+{
+    ask_note_of(name, number, FARNKUPPEL_NOTE_BYTES, FARNKUPPEL_NOTE_WORDS);
 }
 
 static void ask_all(const char *name)
@@ -198,11 +248,83 @@ static void rules(void)
     ask("ends-299-apart", 3);
 }
 
+/* A lines plan with four notes, and records that are none between them. */
+static void noted(unsigned version)
+{
+    begin(version, 7);
+    note("A");
+    point(0, 0, 0);
+    note("the second");
+    note("a note has 32 bytes at the most.");
+    pair(129, 500);
+    point(1000, 0, 0);
+    point(1000, 1000, 0);
+    note("last");
+    close_area();
+}
+
+static void notes(void)
+{
+    noted(3);
+    for (uint32_t number = 0; number <= 5; number++)
+        ask_note("noted", number);
+    ask_note("noted", 257);
+    ask_note("noted", 65537);
+    ask_note("noted", UINT32_MAX);
+    ask_note_of("room-40", 2, 40, 3);
+    ask_note_of("room-31", 1, 31, 1);
+    ask_note_of("no-room", 1, 0, 1);
+    ask_note_of("no-answer", 1, 32, 0);
+    ask_note_of("room-31-and-no-such-note", 9, 31, 1);
+}
+
+/* Files without a note, and files that the newest reader refuses. */
+static void no_notes(void)
+{
+    lines(1);
+    ask_note("lines", 1);
+    length = 0;
+    ask_note("empty", 1);
+    noted(2);
+    ask_note("speed-in-version-2", 1);
+    noted(3);
+    memset(file + 5, 0, 4);
+    ask_note("serial-0", 1);
+    noted(3);
+    note("a note of 33 bytes, one too many.");
+    close_area();
+    ask_note("note-of-33-bytes", 1);
+    noted(3);
+    put(200, 1);
+    put(0, 1);
+    close_area();
+    ask_note("unknown-in-version-3", 1);
+}
+
+/* A later file: what the newest reader does not know is no note. */
+static void later_notes(void)
+{
+    lines(4);
+    put(200, 1);
+    put(2, 1);
+    put(0x4142, 2);
+    note("first");
+    put(130, 1);
+    put(0, 1);
+    note("second");
+    close_area();
+    for (uint32_t number = 1; number <= 3; number++)
+        ask_note("later", number);
+}
+
 int main(void)
 {
     headers();
     areas();
     records();
     rules();
+    notes();
+    no_notes();
+    later_notes();
     return 0;
 }

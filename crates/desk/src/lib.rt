@@ -1,7 +1,17 @@
-// The desk's check of a plan file, for C (document 01: "The desk's C program gets the refusal number of a file for a reader version, 0 if it
-// loads"). The header is include/farnkuppel.h.
+// The desk's check of a plan file and the notes of one, for C (document 01: "The desk's C program gets the refusal number of a file for a reader
+// version, 0 if it loads"). The header is include/farnkuppel.h.
 ghost use mathlib.Core.Path.{_≡_};
+ghost use Prim.Native.Nat.{_≤_};
+ghost use lib.ListN.{length};
+ghost use Rattle.buffers.specs.Splice.{over};
 ghost use Rattle.wpl.specs.Load.{loadOf, loadedOf};
+ghost use Rattle.wpl.specs.Note.{noteOf};
+ghost use Rattle.desk.specs.Calls.{noteFits, noteResult, noteBuffer, noteAnswer};
+
+// The most bytes of a note, and the words of the answer to a note.
+const MOST_NOTE: usize = 32;
+
+const NOTE: usize = 1;
 
 // The number of the first refusal, 0 if the file loads.
 #[no_mangle]
@@ -9,4 +19,47 @@ pub extern "C" fn farnkuppel_refusal(file: &[u8], reader: u32) -> u32
     ensures { λ r. ⌜ r ≡ loadedOf (loadOf reader (now (file .entry))) .refusal ⌝ }
 {
     wpl::load(file, reader).refusal as u32
+}
+
+// Whether a buffer has room for any note, and an answer its length.
+fn fits(buffer: usize, answer: usize) -> bool
+    ensures { λ r. ⌜ r ≡ noteFits buffer answer ⌝ }
+{
+    if MOST_NOTE <= buffer {
+        return NOTE <= answer;
+    }
+    false
+}
+
+// Bytes at the front of a part.
+fn put_bytes(bytes: &[u8], part: &mut [u8])
+    requires { ⌜ length (now bytes) ≤ length (now part) ⌝ }
+    ensures { λ _. ⌜ now (part .exit) ≡ over (now (bytes .entry)) (now (part .entry)) ⌝ }
+{
+    let mut i: usize = 0;
+    while i < bytes.len() {
+        part[i] = bytes[i];
+        i += 1;
+    }
+}
+
+// The bytes of a note, by its number from 1, and how many they are: none where the newest reader refuses the file or there is no such note.
+#[no_mangle]
+pub extern "C" fn farnkuppel_note(
+    file: &[u8],
+    number: u32,
+    note: &mut [u8],
+    answer: &mut [u32],
+) -> u32
+    ensures { λ r. ⌜ r ≡ noteResult (noteFits (length (now (note .entry))) (length (now (answer .entry)))) ⌝ }
+    ensures { λ _. ⌜ now (note .exit) ≡ noteBuffer (noteFits (length (now (note .entry))) (length (now (answer .entry)))) (noteOf (now (file .entry)) number) (now (note .entry)) ⌝ }
+    ensures { λ _. ⌜ now (answer .exit) ≡ noteAnswer (noteFits (length (now (note .entry))) (length (now (answer .entry)))) (noteOf (now (file .entry)) number) (now (answer .entry)) ⌝ }
+{
+    if !fits(note.len(), answer.len()) {
+        return words::MISFIT as u32;
+    }
+    let bytes = wpl::note(file, number as usize);
+    put_bytes(bytes, note);
+    answer[0] = bytes.len() as u32;
+    0
 }

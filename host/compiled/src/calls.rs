@@ -33,11 +33,22 @@ mod c {
             answer_length: usize,
         ) -> u32;
         pub fn farnkuppel_refusal(file: *const u8, length: usize, reader: u32) -> u32;
+        pub fn farnkuppel_note(
+            file: *const u8,
+            file_length: usize,
+            number: u32,
+            note: *mut u8,
+            note_length: usize,
+            answer: *mut u32,
+            answer_length: usize,
+        ) -> u32;
     }
 }
 
 pub const LOAD_WORDS: usize = 2;
 pub const WRITE_WORDS: usize = 3;
+pub const NOTE_WORDS: usize = 1;
+pub const NOTE_BYTES: usize = 32;
 pub const ANSWER_WORDS: usize = 8;
 pub const COMMAND_NUMBERS: usize = 6;
 pub const TOO_SHORT: u32 = 100;
@@ -93,4 +104,19 @@ pub fn write(state: &[u32], version: u32, file: &mut [u8], answer: &mut [u32]) -
 pub fn refusal(file: &[u8], reader: u32) -> u32 {
     // SAFETY: the pointer comes with the length of its slice.
     unsafe { c::farnkuppel_refusal(file.as_ptr(), file.len(), reader) }
+}
+
+pub fn note(file: &[u8], number: u32, note: &mut [u8], answer: &mut [u32]) -> u32 {
+    // SAFETY: every pointer comes with the length of its slice, and the slices are apart.
+    unsafe {
+        c::farnkuppel_note(
+            file.as_ptr(),
+            file.len(),
+            number,
+            note.as_mut_ptr(),
+            note.len(),
+            answer.as_mut_ptr(),
+            answer.len(),
+        )
+    }
 }

@@ -1,14 +1,15 @@
 //! Each call made twice, by the reference and by the compiled manager, and every word compared.
 
+use crate::notes::Notes;
 use compiled::calls::{self, ANSWER_WORDS, COMMAND_NUMBERS, LOAD_WORDS, TOO_SHORT, WRITE_WORDS};
 use compiled::words::{self, hex_of_bytes, hex_of_words, Words, STATE_WORDS};
 use reference::{load, write, State};
 
 /// What lent memory holds before a call, so that a word too few or too many shows.
-const PATTERN: u32 = 0xA5A5_A5A5;
-const BYTE_PATTERN: u8 = 0x5A;
+pub const PATTERN: u32 = 0xA5A5_A5A5;
+pub const BYTE_PATTERN: u8 = 0x5A;
 /// So much more is lent than needed, and must stay as it was.
-const SPARE: usize = 3;
+pub const SPARE: usize = 3;
 
 /// What the runs counted.
 #[derive(Default)]
@@ -23,6 +24,7 @@ pub struct Tally {
     /// Sound fixes by mode and phase, then those that changed the place.
     pub phases: [[u64; 6]; 3],
     pub steps: u64,
+    pub notes: Notes,
 }
 
 /// Seed and number of the case at hand.
@@ -34,7 +36,7 @@ pub struct Case {
 }
 
 impl Tally {
-    fn disagree(&mut self, case: Case, what: String) {
+    pub fn disagree(&mut self, case: Case, what: String) {
         self.disagreements += 1;
         println!("disagree {} seed {} number {} {}", case.part, case.seed, case.number, what);
     }

@@ -93,6 +93,29 @@ pub fn random_file(c: &mut Chance) -> Vec<u8> {
     file
 }
 
+/// A file with notes in it, which the newest reader mostly loads.
+pub fn noted_file(c: &mut Chance) -> Vec<u8> {
+    let plan = random_plan(c);
+    let needed = needed_version(plan.mode).max(2);
+    let mut draft = draft_of(&plan, random_version(c, needed), random_serial(c));
+    for _ in 0..c.between(1, 6) {
+        let at = c.below(draft.records.len() + 1);
+        let length = c.between(1, 32) as usize;
+        draft.records.insert(at, Record { kind: NOTE, body: random_bytes(c, length) });
+    }
+    if c.one_in(3) {
+        sprinkle(c, &mut draft);
+    }
+    if c.one_in(8) {
+        damage_records(c, &mut draft);
+    }
+    let mut file = encode(&draft);
+    if c.one_in(8) {
+        damage_bytes(c, &mut file);
+    }
+    file
+}
+
 /// A file that the newest reader loads, and the state it gives.
 pub fn loading_file(c: &mut Chance) -> (Vec<u8>, State) {
     loop {

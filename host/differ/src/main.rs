@@ -1,10 +1,11 @@
 //! Differential tests of the compiled path manager against the reference.
 //!
-//! differ loads|fixes|writes|states|all N SEED
+//! differ loads|fixes|writes|states|notes|all N SEED
 
 mod chance;
 mod compare;
 mod files;
+mod notes;
 mod plans;
 mod positions;
 mod runs;
@@ -21,7 +22,8 @@ fn run(part: &str, n: u64, seed: u64, tally: &mut Tally) -> bool {
         "fixes" => runs::fixes(tally, n, seed),
         "writes" => runs::writes(tally, n, seed),
         "states" => runs::states(tally, n, seed),
-        "all" => ["loads", "fixes", "writes", "states"].iter().for_each(|part| {
+        "notes" => notes::run(tally, n, seed),
+        "all" => ["loads", "fixes", "writes", "states", "notes"].iter().for_each(|part| {
             run(part, n, seed, tally);
         }),
         _ => return false,
@@ -43,6 +45,7 @@ fn report(tally: &Tally) -> bool {
         println!("{}", counts(&format!("{mode} phases"), phases));
     }
     println!("steps {}", tally.steps);
+    println!("{}", tally.notes.counts());
     let missing: Vec<usize> = (1..=12).filter(|number| tally.load_refusals[*number] == 0).collect();
     let whole = tally.loads < FULL_RUN || missing.is_empty();
     if !whole {
@@ -56,12 +59,12 @@ fn main() -> ExitCode {
     let numbers: Vec<u64> = arguments.iter().skip(1).filter_map(|text| text.parse().ok()).collect();
     let mut tally = Tally::default();
     if arguments.len() != 3 || numbers.len() != 2 || !run(&arguments[0], numbers[0], numbers[1], &mut tally) {
-        eprintln!("usage: differ loads|fixes|writes|states|all N SEED");
+        eprintln!("usage: differ loads|fixes|writes|states|notes|all N SEED");
         return ExitCode::from(2);
     }
     let whole = report(&tally);
-    let Tally { loads, fixes, writes, disagreements, .. } = tally;
-    println!("loads {loads} fixes {fixes} writes {writes} disagreements {disagreements}");
+    let Tally { loads, fixes, writes, notes, disagreements, .. } = tally;
+    println!("loads {loads} fixes {fixes} writes {writes} notes {} disagreements {disagreements}", notes.asked);
     if whole && disagreements == 0 {
         ExitCode::SUCCESS
     } else {

@@ -1,4 +1,4 @@
-//! The four runs: loads, fixes, writes, states.
+//! The runs: loads, fixes, writes, states. That of notes stands with their comparison.
 
 use crate::chance::Chance;
 use crate::compare::{Case, Tally};

@@ -1,0 +1,191 @@
+#include "calls.h"
+
+#include "lent.h"
+
+#include <string.h>
+
+#define SPARE 3 /* so many elements more are lent the second time */
+#define WORD sizeof(uint32_t)
+
+static const uint8_t first = 0x5A, second = 0xA5;
+static struct lent file_memory, state_memory, answer_memory, bytes_memory;
+
+void prepare(void)
+{
+    file_memory = lent_for(MOST_FILE);
+    state_memory = lent_for(STATE_BYTES + SPARE * WORD);
+    answer_memory = lent_for((FARNKUPPEL_ANSWER_WORDS + SPARE) * WORD);
+    bytes_memory = lent_for(MOST_ROOM + SPARE);
+}
+
+/* A slice that the manager only reads, and that it left as it was. */
+static void *lend_copy(const struct lent *memory, const void *from, size_t bytes)
+{
+    void *slice = lend(memory, bytes, first);
+    if (bytes)
+        memcpy(slice, from, bytes);
+    return slice;
+}
+
+static void take_copy(const struct lent *memory, const void *from, size_t bytes)
+{
+    take_back(memory, bytes, bytes, first);
+    HOLD(bytes == 0 || memcmp(memory->end - bytes, from, bytes) == 0);
+}
+
+static void load_once(struct file file, uint32_t reader, size_t spare, uint8_t fill, struct load *got)
+{
+    size_t states = FARNKUPPEL_STATE_WORDS + spare, answers = FARNKUPPEL_LOAD_WORDS + spare;
+    uint8_t *bytes = lend_copy(&file_memory, file.bytes, file.length);
+    uint32_t *state = lend(&state_memory, states * WORD, fill);
+    uint32_t *answer = lend(&answer_memory, answers * WORD, fill);
+    got->result = farnkuppel_load(bytes, file.length, reader, state, states, answer, answers);
+    take_copy(&file_memory, file.bytes, file.length);
+    take_back(&state_memory, states * WORD, sizeof got->state, fill);
+    take_back(&answer_memory, answers * WORD, sizeof got->answer, fill);
+    memcpy(got->state, state, sizeof got->state);
+    memcpy(got->answer, answer, sizeof got->answer);
+}
+
+struct load load_of(struct file file, uint32_t reader)
+{
+    struct load got, again;
+    load_once(file, reader, 0, first, &got);
+    load_once(file, reader, SPARE, second, &again);
+    HOLD(memcmp(&got, &again, sizeof got) == 0);
+    HOLD(got.result == got.answer[0]);
+    uint8_t *bytes = lend_copy(&file_memory, file.bytes, file.length);
+    HOLD(farnkuppel_refusal(bytes, file.length, reader) == got.result);
+    take_copy(&file_memory, file.bytes, file.length);
+    return got;
+}
+
+static void note_once(struct file file, uint32_t number, size_t spare, uint8_t fill, struct note *got)
+{
+    size_t room = FARNKUPPEL_NOTE_BYTES + spare, answers = FARNKUPPEL_NOTE_WORDS + spare;
+    uint8_t *bytes = lend_copy(&file_memory, file.bytes, file.length);
+    uint8_t *note = lend(&bytes_memory, room, fill);
+    uint32_t *answer = lend(&answer_memory, answers * WORD, fill);
+    memset(got, 0, sizeof *got);
+    got->result = farnkuppel_note(bytes, file.length, number, note, room, answer, answers);
+    got->length = answer[0];
+    HOLD(got->length <= FARNKUPPEL_NOTE_BYTES);
+    take_copy(&file_memory, file.bytes, file.length);
+    take_back(&bytes_memory, room, got->length, fill);
+    take_back(&answer_memory, answers * WORD, WORD, fill);
+    memcpy(got->bytes, note, got->length);
+}
+
+struct note note_of(struct file file, uint32_t number)
+{
+    struct note got, again;
+    note_once(file, number, 0, first, &got);
+    note_once(file, number, SPARE, second, &again);
+    HOLD(memcmp(&got, &again, sizeof got) == 0);
+    HOLD(got.result == FARNKUPPEL_NONE);
+    return got;
+}
+
+static void fix_once(const uint32_t *from, uint32_t serial, const float *p, size_t spare, uint8_t fill, struct fix *got)
+{
+    size_t states = FARNKUPPEL_STATE_WORDS + spare, answers = FARNKUPPEL_ANSWER_WORDS + spare;
+    size_t commands = FARNKUPPEL_COMMAND_NUMBERS + spare;
+    uint32_t *state = lend(&state_memory, states * WORD, fill);
+    memcpy(state, from, STATE_BYTES);
+    uint32_t *answer = lend(&answer_memory, answers * WORD, fill);
+    float *command = lend(&bytes_memory, commands * sizeof(float), fill);
+    got->result = farnkuppel_fix(state, states, serial, p[0], p[1], p[2], answer, answers, command, commands);
+    take_back(&state_memory, states * WORD, sizeof got->state, fill);
+    take_back(&answer_memory, answers * WORD, sizeof got->answer, fill);
+    take_back(&bytes_memory, commands * sizeof(float), sizeof got->command, fill);
+    memcpy(got->state, state, sizeof got->state);
+    memcpy(got->answer, answer, sizeof got->answer);
+    memcpy(got->command, command, sizeof got->command);
+}
+
+struct fix fix_of(const uint32_t *state, uint32_t serial, const float *position)
+{
+    struct fix got, again;
+    fix_once(state, serial, position, 0, first, &got);
+    fix_once(state, serial, position, SPARE, second, &again);
+    HOLD(memcmp(&got, &again, sizeof got) == 0);
+    HOLD(got.result == got.answer[FARNKUPPEL_ANSWER_REFUSAL]);
+    return got;
+}
+
+static void write_once(const uint32_t *from, uint32_t version, size_t room, size_t spare, uint8_t fill, struct written *got)
+{
+    size_t answers = FARNKUPPEL_WRITE_WORDS + spare;
+    uint32_t *state = lend_copy(&state_memory, from, STATE_BYTES);
+    uint8_t *bytes = lend(&bytes_memory, room, fill);
+    uint32_t *answer = lend(&answer_memory, answers * WORD, fill);
+    memset(got, 0, sizeof *got);
+    got->result = farnkuppel_write(state, FARNKUPPEL_STATE_WORDS, version, bytes, room, answer, answers);
+    memcpy(got->answer, answer, sizeof got->answer);
+    HOLD(got->answer[2] <= room);
+    take_copy(&state_memory, from, STATE_BYTES);
+    take_back(&bytes_memory, room, got->answer[2], fill);
+    take_back(&answer_memory, answers * WORD, sizeof got->answer, fill);
+    memcpy(got->bytes, bytes, got->answer[2]);
+}
+
+struct written write_of(const uint32_t *state, uint32_t version, size_t room)
+{
+    struct written got, again;
+    write_once(state, version, room, 0, first, &got);
+    write_once(state, version, room, SPARE, second, &again);
+    HOLD(memcmp(&got, &again, sizeof got) == 0);
+    HOLD(got.result == got.answer[0]);
+    HOLD(got.answer[1] == 0);
+    HOLD((got.answer[2] == 0) == (got.result != FARNKUPPEL_NONE));
+    return got;
+}
+
+static size_t less(size_t length, size_t cut)
+{
+    return cut < length ? length - cut : 0;
+}
+
+/* The slices of a call by their lengths in elements; `bytes` has elements of 1 or 4 bytes. */
+struct lengths {
+    size_t state, answer, bytes;
+};
+
+static uint32_t call_short(int call, const uint8_t *file, size_t length, struct lengths n, size_t element)
+{
+    uint32_t *state = lend(&state_memory, n.state * WORD, first);
+    uint32_t *answer = lend(&answer_memory, n.answer * WORD, first);
+    void *bytes = lend(&bytes_memory, n.bytes * element, first);
+    uint32_t result = 0;
+    if (call == 0)
+        result = farnkuppel_load(file, length, FARNKUPPEL_NEWEST, state, n.state, answer, n.answer);
+    if (call == 1)
+        result = farnkuppel_fix(state, n.state, 1, 0, 0, 0, answer, n.answer, bytes, n.bytes);
+    if (call == 2)
+        result = farnkuppel_write(state, n.state, FARNKUPPEL_NEWEST, bytes, n.bytes, answer, n.answer);
+    if (call == 3)
+        result = farnkuppel_note(file, length, 1, bytes, n.bytes, answer, n.answer);
+    take_back(&state_memory, n.state * WORD, 0, first);
+    take_back(&answer_memory, n.answer * WORD, 0, first);
+    take_back(&bytes_memory, n.bytes * element, 0, first);
+    return result;
+}
+
+void short_slices(struct file file, size_t cut)
+{
+    const size_t states = FARNKUPPEL_STATE_WORDS, numbers = FARNKUPPEL_COMMAND_NUMBERS, room = FARNKUPPEL_NOTE_BYTES;
+    const size_t answers[] = {FARNKUPPEL_LOAD_WORDS, FARNKUPPEL_ANSWER_WORDS, FARNKUPPEL_WRITE_WORDS, FARNKUPPEL_NOTE_WORDS};
+    const size_t elements[] = {1, sizeof(float), 1, 1}, lengths[] = {0, numbers, MOST_ROOM, room};
+    uint8_t *bytes = lend_copy(&file_memory, file.bytes, file.length);
+    for (int call = 0; call < 4; call++) {
+        struct lengths short_answer = {states, less(answers[call], cut), lengths[call]};
+        struct lengths short_state = {less(states, cut), answers[call], lengths[call]};
+        struct lengths short_bytes = {states, answers[call], less(lengths[call], cut)};
+        HOLD(call_short(call, bytes, file.length, short_answer, elements[call]) == FARNKUPPEL_TOO_SHORT);
+        if (call != 3)
+            HOLD(call_short(call, bytes, file.length, short_state, elements[call]) == FARNKUPPEL_TOO_SHORT);
+        if (call == 1 || call == 3)
+            HOLD(call_short(call, bytes, file.length, short_bytes, elements[call]) == FARNKUPPEL_TOO_SHORT);
+    }
+    take_copy(&file_memory, file.bytes, file.length);
+}

@@ -1,0 +1,55 @@
+/* The calls of the C interface over guarded memory. Each is made twice, over memory that held other bytes before and is longer the second time,
+ * and has to answer the same; what the header promises of any call is held here. */
+#ifndef CALLS_H
+#define CALLS_H
+
+#include "farnkuppel.h"
+
+#define MOST_FILE 9000  /* more than a plan file can have */
+#define MOST_ROOM 1167  /* the longest file that is written: 64 points with courses */
+#define STATE_BYTES (FARNKUPPEL_STATE_WORDS * sizeof(uint32_t))
+
+struct file {
+    const uint8_t *bytes;
+    size_t length;
+};
+
+struct load {
+    uint32_t result;
+    uint32_t answer[FARNKUPPEL_LOAD_WORDS];
+    uint32_t state[FARNKUPPEL_STATE_WORDS];
+};
+
+struct note {
+    uint32_t result;
+    uint32_t length;
+    uint8_t bytes[FARNKUPPEL_NOTE_BYTES];
+};
+
+struct fix {
+    uint32_t result;
+    uint32_t answer[FARNKUPPEL_ANSWER_WORDS];
+    uint32_t command[FARNKUPPEL_COMMAND_NUMBERS]; /* the bits of the numbers */
+    uint32_t state[FARNKUPPEL_STATE_WORDS];
+};
+
+struct written {
+    uint32_t result;
+    uint32_t answer[FARNKUPPEL_WRITE_WORDS];
+    uint8_t bytes[MOST_ROOM];
+};
+
+/* Gets the memory that is lent. Once, before any call. */
+void prepare(void);
+
+struct load load_of(struct file file, uint32_t reader);
+struct note note_of(struct file file, uint32_t number);
+struct fix fix_of(const uint32_t *state, uint32_t serial, const float *position);
+
+/* Into `room` bytes, at most MOST_ROOM. */
+struct written write_of(const uint32_t *state, uint32_t version, size_t room);
+
+/* Every call with one slice `cut` elements too short: refused, and nothing is written. */
+void short_slices(struct file file, size_t cut);
+
+#endif

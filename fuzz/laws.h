@@ -1,0 +1,19 @@
+/* What document 01 and the header say of every file, state and fix, as far as it can be held without a second implementation. */
+#ifndef LAWS_H
+#define LAWS_H
+
+#include "calls.h"
+
+/* A file by the reader that is asked for and by every reader; the newest one's load comes back. */
+struct load load_laws(struct file file, uint32_t reader);
+
+/* The notes of a file, those around them, and the one that is asked for. */
+void note_laws(struct file file, int loads, uint32_t asked);
+
+/* What a state writes at a version, into a buffer that is so much shorter than it could be. */
+void write_laws(const uint32_t *state, uint32_t version, size_t less);
+
+/* One fix; the answer comes back. */
+struct fix fix_laws(const uint32_t *state, uint32_t serial, const float *position);
+
+#endif

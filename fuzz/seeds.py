@@ -1,0 +1,135 @@
+#!/usr/bin/env python3
+"""Writes the seeds of the fuzzer: the sample plans, and small plans of each mode, version and refusal, with calls.
+
+usage: seeds.py FOLDER        (the form of an input is in fuzz.c)
+"""
+import os
+import struct
+import sys
+
+ROOT = os.path.join(os.path.dirname(os.path.abspath(__file__)), "..")
+FIX, NAMED, NEAR, FLY, WRITE, SET, FIX_SET = range(7)
+NEWEST, MENDED = 3, 128
+
+
+def read(path):
+    with open(os.path.join(ROOT, path), "rb") as file:
+        return file.read()
+
+
+def record(kind, body):
+    return bytes([kind, len(body)]) + body
+
+
+def point(north, east, down=0):
+    return record(1, struct.pack(">iii", north, east, down))
+
+
+def pair(kind, value):
+    return record(kind, struct.pack(">H", value))
+
+
+def plan(version, *records, serial=7):
+    area = b"".join(records)
+    return b"WPL" + struct.pack(">HIH", version, serial, len(area)) + area
+
+
+def seed(file, *calls, reader=NEWEST, asked=1, mended=0):
+    flown = b"".join(calls)
+    return bytes([reader | mended, asked]) + struct.pack(">H", len(flown)) + flown + file
+
+
+def fix(kind, north, east, down=0.0):
+    return bytes([kind]) + struct.pack(">fff", north, east, down)
+
+
+def fly(fixes, metres):
+    return bytes([FLY, fixes, metres])
+
+
+def near(place, north, east):
+    return bytes([NEAR, place]) + struct.pack(">hh", north, east)
+
+
+def write(version, less=0):
+    return bytes([WRITE, version]) + struct.pack(">H", less)
+
+
+def set_word(place, value):
+    return bytes([SET]) + struct.pack(">HI", place, value)
+
+
+def recorded_fixes(path):
+    data = read(path)
+    return [bytes([NAMED]) + data[at:at + 16] for at in range(0, len(data), 16)]
+
+
+LEGS = [point(0, 0, -1000), point(3000, 0, -1000), point(3000, 4000, -900), point(-500, 4000)]
+RADIUS = pair(2, 200)
+
+
+def dubins(*courses):
+    return [RADIUS] + [record for leg, course in zip(LEGS, courses) for record in (leg, pair(3, course))]
+
+
+def samples():
+    for name in ["lines", "fillets", "dubins"]:
+        file = read(f"samples/{name}.wpl")
+        for metres in [5, 10, 20]:
+            yield seed(file, fly(200, metres), write(NEWEST))
+        yield seed(file, *[near(place, 10, -10) for place in range(5)], write(2), write(1), write(NEWEST, 1000))
+    file = read("crates/fly/data/plan.wpl")
+    fixes = recorded_fixes("crates/fly/data/fixes.bin")
+    for at in range(0, len(fixes), 16):
+        yield seed(file, *fixes[at:at + 16])
+
+
+def loading():
+    for version in [1, 2, 3, 4, 65535]:
+        yield seed(plan(version, *LEGS), fly(200, 10))
+    for version in [2, 3, 5]:
+        yield seed(plan(version, record(128, b"A"), RADIUS, *LEGS, record(128, b"z" * 32)), fly(200, 10), asked=2)
+    for courses in [(0, 0, 0, 0), (0, 1024, 2048, 3072), (2048, 100, 4000, 1), (512, 3584, 1024, 0)]:
+        yield seed(plan(3, *dubins(*courses)), fly(200, 15), write(NEWEST))
+        yield seed(plan(4, pair(129, 500), *dubins(*courses), record(200, b"later")), fly(200, 25))
+    yield seed(plan(3, record(128, b"start"), *LEGS, pair(129, 500)), fly(50, 10))
+    zigzag = [point(1000 * i, 800 * (i % 2)) for i in range(64)]
+    yield seed(plan(1, *zigzag), fly(200, 60))
+    yield seed(plan(3, RADIUS, *[r for leg in zigzag for r in (leg, pair(3, 64))]), fly(200, 40), write(NEWEST))
+
+
+def refused():
+    lines = plan(1, *LEGS)
+    files = [
+        b"", lines[:10], b"wpl" + lines[3:], plan(0, *LEGS), plan(1, *LEGS, serial=0), lines + b"\0", lines[:-1],
+        plan(4, *LEGS, record(4, b"")), plan(3, *LEGS[:2]), plan(3, *[LEGS[0], pair(3, 0)], *LEGS[1:]),
+        plan(1, LEGS[0], LEGS[0], *LEGS[1:]), plan(1, LEGS[0], LEGS[1], LEGS[0]), plan(2, pair(2, 9000), *LEGS),
+        plan(3, pair(2, 9000), *dubins(0, 0, 0, 0)[1:]), plan(2, *LEGS, record(128, b"")), plan(3, *LEGS, pair(129, 1001)),
+        plan(2, RADIUS, RADIUS, *LEGS), plan(1, *LEGS, point(500001, 0)), plan(2, RADIUS, LEGS[0], LEGS[1], LEGS[0]),
+        plan(3, *dubins(0, 0, 0, 0)[:-1]),
+    ]
+    for reader, file in enumerate(files):
+        yield seed(file, fix(FIX, 0.0, 0.0), reader=reader % 8)
+        yield seed(file, near(1, 0, 0), mended=MENDED)
+
+
+def fixes():
+    file = plan(3, *dubins(0, 1024, 2048, 3072))
+    far = [50000.0, 50000.00390625, float("nan"), float("inf"), -50000.0]
+    yield seed(file, *[fix(FIX, north, 1.0) for north in far], *[fix(FIX, 0.25, 0.05, down) for down in [10000.0, -10001.0]])
+    yield seed(file, bytes([NAMED]) + struct.pack(">Ifff", 8, 0, 0, 0))
+    for place, value in [(0, 0), (1, 3), (2, 0), (3, 65), (4, 4), (5, 5), (6, 1), (7, 500001), (198, 1), (199, 4096), (262, 1)]:
+        yield seed(file, set_word(place, value), fix(FIX_SET, 10.0, 10.0), fix(FIX_SET, 300.0, 400.0))
+    for phase in range(1, 6):
+        yield seed(file, set_word(4, 4), set_word(5, phase), *[fix(FIX_SET, north, 400.0) for north in [-100.0, -50.0, 0.0, 50.0]])
+
+
+def main(folder):
+    os.makedirs(folder, exist_ok=True)
+    for made in [samples, loading, refused, fixes]:
+        for place, data in enumerate(made()):
+            with open(os.path.join(folder, f"{made.__name__}-{place:02}"), "wb") as file:
+                file.write(data)
+
+
+main(sys.argv[1])
