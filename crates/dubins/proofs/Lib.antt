@@ -1,3 +1,4 @@
 pub mod PathBounds
 pub mod ExistenceLaws
 pub mod ShortestLaws
+pub mod FarLaws

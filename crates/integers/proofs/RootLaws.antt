@@ -5,7 +5,7 @@ use Prim.Native.Nat.{ℕ, zero, suc, _+_, _*_, _/_, _≤_, _<_}
 use native.Mathlib.Nat.{mul-le-mul, lt-of-not-le, not-le-of-lt, le-antisymm, lt-of-le-of-lt}
 use native.Mathlib.Omega.{arith}
 use lib.Dec.{leb}
-use borrow.Author.Tests.{leb-true, leb-false}
+use borrow.Author.Tests.{leb-true, leb-false, le-leb, lt-leb}
 use Rattle.integers.specs.Choose.{choose}
 use Rattle.integers.specs.Root.{IsRoot, nextRoot, rootBy, rootOf}
 
@@ -45,3 +45,11 @@ pub square-fits : (m : ℕ) → m < 4294967296 → m * m < 18446744073709551616
 square-fits m h =
     let k : m ≤ 4294967295 = omega arith in
     omega (arith, mul-le-mul k k)
+
+-- whether a number is at most a root, asked of its square
+pub root-least : (n t : ℕ) → leb t (rootOf n) ≡ leb (t * t) n
+root-least n t = by-square (leb (t * t) n) refl
+  where
+    by-square : (b : Bool) → leb (t * t) n ≡ b → leb t (rootOf n) ≡ b
+    by-square true e = le-leb t (rootOf n) (omega (arith, square-lt t (rootOf n + 1) (lt-of-le-of-lt (leb-true (t * t) n e) (root-is n .high))))
+    by-square false e = lt-leb t (rootOf n) (root-lt n t (leb-false (t * t) n e))

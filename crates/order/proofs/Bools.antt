@@ -37,3 +37,16 @@ both-first a b h = by-bool a (λ t. t) (λ u. clash (both a b) h (both-off a b u
 
 pub both-second : (a b : Bool) → both a b ≡ true → b ≡ true
 both-second a b h = sym (both-on a b (both-first a b h)) ∙ h
+
+-- two pairs of tests, taken the other way
+pub both-swap : (a b c d : Bool) → both (both a b) (both c d) ≡ both (both a c) (both b d)
+unfolding both
+both-swap true true c d = refl
+both-swap true false true d = refl
+both-swap true false false d = refl
+both-swap false b c d = refl
+
+pub both-both : (a b c : Bool) → both (both a b) c ≡ both a (both b c)
+unfolding both
+both-both true b c = refl
+both-both false b c = refl

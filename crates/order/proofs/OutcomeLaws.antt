@@ -4,6 +4,7 @@ use mathlib.Core.Bool.{Bool, true, false}
 use Prim.Native.Nat.{ℕ}
 use native.Mathlib.Omega.{arith}
 use lib.Dec.{eqb}
+use Rattle.integers.specs.Choose.{choose}
 use Rattle.order.specs.Outcome.{Outcome, good, refused, check, andThen, refusalOf, isGood}
 use Rattle.order.proofs.Bools.{clash}
 
@@ -77,3 +78,10 @@ pub proper-then : {A B : Type 0} (o : Outcome A) (g : A → Outcome B) → Prope
 unfolding andThen isGood refusalOf
 proper-then (good a) g h k = k a
 proper-then (refused n p) g h k = h
+
+-- the refusal of one after another: the first's, or else the second's
+pub then-refusal : {A B : Type 0} (o : Outcome A) (q : Outcome B) → Proper o
+    → refusalOf (andThen o (λ (_ : A). q)) ≡ choose (eqb (refusalOf o .number) 0) (refusalOf q) (refusalOf o)
+unfolding andThen isGood refusalOf choose
+then-refusal (good a) q h = refl
+then-refusal (refused n p) q h = rw (sym h)

@@ -1,17 +1,17 @@
 -- Refusals 8 to 12 and 17: which one stands, that none has the number 0, and what a plan that passes says of its places. Assumes nothing.
 use mathlib.Core.Path.{_≡_, refl, sym, ap, _∙_}
 use mathlib.Core.Bool.{Bool, true, false}
-use Prim.Native.Nat.{ℕ, zero, suc, _+_, _-_, _≤_, _<_}
+use Prim.Native.Nat.{ℕ, _+_, _-_, _≤_, _<_}
 use native.Mathlib.Omega.{arith}
 use lib.Dec.{eqb, ltb}
 use borrow.Author.Tests.{ltb-false, leb-true, le-leb, lt-leb}
 use Rattle.integers.specs.Choose.{choose}
 use Rattle.order.specs.declared.Refusal.{Refusal}
 use Rattle.order.specs.Outcome.{Outcome, good, refused, check, andThen, refusalOf, isGood}
-use Rattle.order.specs.Sweep.{Done, done, sweep}
+use Rattle.order.specs.Sweep.{Done, done}
 use Rattle.order.proofs.Bools.{clash}
 use Rattle.order.proofs.OutcomeLaws.{Proper, check-true, check-false, check-first, check-rest, then-good, then-refused, good-first, proper-check, proper-then}
-use Rattle.order.proofs.SweepLaws.{sweep-means, sweep-clean, sweep-done, proper-sweep}
+use Rattle.order.proofs.SweepLaws.{sweep-means, sweep-zeros, sweep-done, proper-sweep}
 use Rattle.plane.specs.declared.Point.{Point}
 use Rattle.fillets.specs.Corners.{turnOf}
 use Rattle.dubins.specs.Choice.{hasPathOf, farApart}
@@ -46,19 +46,14 @@ leg-paths R n at course h i l m =
     path-has (farApart (at (i - 1)) (at i) R) (hasPathOf (endsAt R at course (i - 1) i))
     (sweep-means (legNumber Dubins R n at course) (n - 1) 1 h i l (omega arith))
 
--- from the number 0 that the code saw
-pub corners-clean : (mode : Mode) (n : ℕ) (at : ℕ → Point) → refusalOf (cornersOf mode n at) .number ≡ 0 → isGood (cornersOf mode n at) ≡ true
-unfolding cornersOf
-corners-clean mode n at h = sweep-clean (cornerAt mode at) (n - 1 - 1) 1 h
+-- lines have no rule on legs, and Dubins plans none on corners
+line-legs : (R n : ℕ) (at : ℕ → Point) (course : ℕ → ℕ) → legsOf Lines R n at course ≡ good done
+unfolding legsOf legNumber
+line-legs R n at course = sweep-zeros (legNumber Lines R n at course) (λ j. refl) (n - 1) 1
 
--- lines have no rule on legs
-pub line-legs : (R n : ℕ) (at : ℕ → Point) (course : ℕ → ℕ) → legsOf Lines R n at course ≡ good done
-unfolding legsOf legNumber sweep choose
-line-legs R n at course = pass (n - 1) 1
-  where
-    pass : (k i : ℕ) → sweep (legNumber Lines R n at course) k i ≡ good done
-    pass zero i = refl
-    pass (suc k) i = pass k (i + 1)
+dubins-corners : (n : ℕ) (at : ℕ → Point) → cornersOf Dubins n at ≡ good done
+unfolding cornersOf cornerNumber
+dubins-corners n at = sweep-zeros (cornerAt Dubins at) (λ j. refl) (n - 1 - 1) 1
 
 -- the number of an answer of the code
 pub same-number : {r s : Refusal} → r ≡ s → s .number ≡ r .number
@@ -75,25 +70,39 @@ module _ (mode : Mode) (R n : ℕ) (at : ℕ → Point) (course : ℕ → ℕ) w
   unfolding geometryOn
   geometry-pairs h = then-refused _ _ h
 
-  after-pairs : refusalOf (pairsOf n at) .number ≡ 0
+  pub geometry-rest : refusalOf (pairsOf n at) .number ≡ 0
       → geometryOn mode R n at course ≡ andThen (cornersOf mode n at) (λ (_ : Done). legsOf mode R n at course)
   unfolding geometryOn pairsOf
-  after-pairs h = then-good _ done _ (sweep-done (pairAt at) (n - 1) 1 h)
+  geometry-rest h = then-good _ done _ (sweep-done (pairAt at) (n - 1) 1 h)
 
-  pub geometry-corners : refusalOf (pairsOf n at) .number ≡ 0 → (refusalOf (cornersOf mode n at) .number ≡ 0 → ⊥)
-      → refusalOf (geometryOn mode R n at course) ≡ refusalOf (cornersOf mode n at)
-  geometry-corners h k = ap refusalOf (after-pairs h) ∙ then-refused _ _ k
+  -- a corner is refused, or the legs are asked
+  pub corners-refuse : (r : Refusal) → r ≡ refusalOf (cornersOf mode n at) → (r .number ≡ 0 → ⊥)
+      → r ≡ refusalOf (andThen (cornersOf mode n at) (λ (_ : Done). legsOf mode R n at course))
+  corners-refuse r e h = e ∙ sym (then-refused _ _ (λ z. h (sym (same-number e) ∙ z)))
 
-  pub geometry-legs : refusalOf (pairsOf n at) .number ≡ 0 → refusalOf (cornersOf mode n at) .number ≡ 0
-      → refusalOf (geometryOn mode R n at course) ≡ refusalOf (legsOf mode R n at course)
+  pub corners-pass : refusalOf (cornersOf mode n at) .number ≡ 0
+      → andThen (cornersOf mode n at) (λ (_ : Done). legsOf mode R n at course) ≡ legsOf mode R n at course
   unfolding cornersOf
-  geometry-legs h k = ap refusalOf (after-pairs h ∙ then-good _ done _ (sweep-done (cornerAt mode at) (n - 1 - 1) 1 k))
+  corners-pass h = then-good _ done _ (sweep-done (cornerAt mode at) (n - 1 - 1) 1 h)
 
   proper-geometry : Proper (geometryOn mode R n at course)
   unfolding geometryOn pairsOf cornersOf legsOf
   proper-geometry =
       proper-then _ _ (proper-sweep (pairAt at) (n - 1) 1)
       (λ (_ : Done). proper-then _ _ (proper-sweep (cornerAt mode at) (n - 1 - 1) 1) (λ (_ : Done). proper-sweep (legNumber mode R n at course) (n - 1) 1))
+
+-- by the mode: of lines the corners alone, of a Dubins plan the legs alone
+then-done : (o q : Outcome Done) → q ≡ good done → refusalOf (andThen o (λ (_ : Done). q)) ≡ refusalOf o
+unfolding andThen refusalOf
+then-done (good done) q h = ap refusalOf h
+then-done (refused n p) q h = refl
+
+module _ (R n : ℕ) (at : ℕ → Point) (course : ℕ → ℕ) where
+  pub line-rest : refusalOf (andThen (cornersOf Lines n at) (λ (_ : Done). legsOf Lines R n at course)) ≡ refusalOf (cornersOf Lines n at)
+  line-rest = then-done (cornersOf Lines n at) (legsOf Lines R n at course) (line-legs R n at course)
+
+  pub dubins-rest : refusalOf (andThen (cornersOf Dubins n at) (λ (_ : Done). legsOf Dubins R n at course)) ≡ refusalOf (legsOf Dubins R n at course)
+  dubins-rest = ap refusalOf (then-good _ done _ (dubins-corners n at))
 
 -- ---- 8 and 9 before them
 pub record Passed (mode : Mode) (R given n : ℕ) (at : ℕ → Point) (course : ℕ → ℕ) : Type 0 where

@@ -1,22 +1,24 @@
 -- Refusal 14's part on the plan: the tests of a plan that stands, and what they give whoever flies it. Assumes nothing.
 use mathlib.Core.Path.{_≡_, sym, ap, _∙_}
 use mathlib.Core.Bool.{Bool, true, false, not}
+use mathlib.Core.List.{List}
 use Prim.Native.Nat.{ℕ, _-_, _≤_, _<_}
 use native.Mathlib.Omega.{arith}
 use lib.Dec.{eqb, ltb}
-use borrow.Author.Tests.{eqb-true, eqb-false, ltb-true, leb-true, le-leb, ne-eqb, not-true}
+use borrow.Author.Tests.{eqb-true, eqb-false, ltb-true, ltb-false, leb-true, le-leb, eq-eqb, ne-eqb, not-true}
 use Rattle.integers.specs.Choose.{choose}
 use Rattle.order.specs.declared.Refusal.{Refusal}
 use Rattle.order.specs.Outcome.{refusalOf, isGood}
+use Rattle.order.specs.Sweep.{both, every}
 use Rattle.order.proofs.Bools.{by-bool, both-on, both-first, both-second}
-use Rattle.order.proofs.SweepLaws.{every-means}
+use Rattle.order.proofs.SweepLaws.{every-means, every-same, every-both, every-change}
 use Rattle.plane.specs.declared.Point.{Point}
 use Rattle.plane.specs.Area.{InArea}
 use Rattle.plan.specs.declared.Mode.{Mode}
 use Rattle.plan.specs.declared.Mode.the-variants.{Lines, Fillets, Dubins}
 use Rattle.plan.specs.declared.Plan.{Plan}
-use Rattle.plan.specs.Limits.{fewestPoints, mostPoints, mostRadius, courses, radiusFits}
-use Rattle.plan.specs.Places.{pointOf, courseOf}
+use Rattle.plan.specs.Limits.{fewestPoints, mostPoints, mostLevel, mostDown, mostRadius, courses, insideOf, inAreaOf, zeroOf, radiusFits}
+use Rattle.plan.specs.Places.{pointOf, courseOf, coursesAt}
 use Rattle.plan.specs.Rules.{modeOf, cornersOf, legsOf}
 use Rattle.plan.specs.Stands.{givenOf, pointFits, courseFits, valuesFit, placeFits, placesFit, rulesOf, standsOf, Ranged, Aimed, ByMode, Stands}
 use Rattle.plan.proofs.LimitLaws.{area-means, zero-area, arc-least, radius-most}
@@ -43,6 +45,46 @@ place-means p h i l =
 pub places-mean : (p : Plan) → placesFit p ≡ true → Ranged p × Aimed p
 places-mean p h =
     ((λ i l. point-area (ltb i (p .count)) (pointOf p i) (place-means p h i l .0)), (λ i l. course-low (ltb i (givenOf (p .mode) (p .count))) (courseOf p i) (place-means p h i l .1)))
+
+-- ---- the places of each kind by themselves: points in use and others, courses that are given and others
+module _ (p : Plan) where
+  abbrev pub pointsFit : Bool
+  pointsFit = every (λ (i : ℕ). pointFits (ltb i (p .count)) (pointOf p i)) (mostPoints - 0) 0
+
+  abbrev pub usedFit : Bool
+  usedFit = every (λ (i : ℕ). insideOf mostLevel mostDown (pointOf p i)) (p .count - 0) 0
+
+  abbrev pub unusedFit : Bool
+  unusedFit = every (λ (i : ℕ). insideOf 0 0 (pointOf p i)) (mostPoints - p .count) (p .count)
+
+  pub points-parts : p .count ≤ mostPoints → pointsFit ≡ both usedFit unusedFit
+  unfolding pointFits inAreaOf zeroOf
+  points-parts l = every-change (λ (i : ℕ). insideOf mostLevel mostDown (pointOf p i)) (λ (i : ℕ). insideOf 0 0 (pointOf p i)) (p .count) mostPoints l
+
+module _ (values : List ℕ) (given : ℕ) where
+  abbrev pub coursesFit : Bool
+  coursesFit = every (λ (i : ℕ). courseFits (ltb i given) (coursesAt values i)) (mostPoints - 0) 0
+
+  abbrev pub givenFit : Bool
+  givenFit = every (λ (i : ℕ). ltb (coursesAt values i) courses) (given - 0) 0
+
+  abbrev pub otherFit : Bool
+  otherFit = every (λ (i : ℕ). ltb (coursesAt values i) 1) (mostPoints - given) given
+
+  pub courses-parts : given ≤ mostPoints → coursesFit ≡ both givenFit otherFit
+  unfolding courseFits
+  courses-parts l =
+      every-same (λ (i : ℕ). courseFits (ltb i given) (coursesAt values i)) (λ (i : ℕ). choose (ltb i given) (ltb (coursesAt values i) courses) (ltb (coursesAt values i) 1)) (mostPoints - 0) 0
+      (λ i _ _. ap (choose (ltb i given) (ltb (coursesAt values i) courses)) (zero-below (coursesAt values i)))
+      ∙ every-change (λ (i : ℕ). ltb (coursesAt values i) courses) (λ (i : ℕ). ltb (coursesAt values i) 1) given mostPoints l
+    where
+      zero-below : (χ : ℕ) → eqb χ 0 ≡ ltb χ 1
+      zero-below χ = by-bool (ltb χ 1) (λ t. eq-eqb χ 0 (omega (arith, ltb-true χ 1 t)) ∙ sym t) (λ u. ne-eqb χ 0 (λ z. omega (arith, ltb-false χ 1 u)) ∙ sym u)
+
+pub places-parts : (p : Plan) → placesFit p ≡ both (pointsFit p) (coursesFit (p .courses) (givenOf (p .mode) (p .count)))
+unfolding placesFit placeFits valuesFit
+places-parts p =
+    every-both (λ (i : ℕ). pointFits (ltb i (p .count)) (pointOf p i)) (λ (i : ℕ). courseFits (ltb i (givenOf (p .mode) (p .count))) (courseOf p i)) (mostPoints - 0) 0
 
 -- ---- the tests in order
 pub record Tests (p : Plan) : Type 0 where

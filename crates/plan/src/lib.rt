@@ -4,15 +4,18 @@ use order::Refusal;
 use plane::Point;
 ghost use mathlib.Core.Path.{_≡_};
 ghost use mathlib.Core.Bool.{true};
-ghost use Prim.Native.Nat.{_≤_};
-ghost use Rattle.order.specs.Outcome.{refusalOf};
+ghost use Prim.Native.Nat.{ℕ, _-_, _≤_};
+ghost use lib.Dec.{eqb, ltb};
+ghost use Rattle.integers.specs.Choose.{choose};
+ghost use Rattle.order.specs.Outcome.{andThen, refusalOf};
+ghost use Rattle.order.specs.Sweep.{Done, every};
 ghost use Rattle.plane.specs.Area.{InArea};
 ghost use Rattle.dubins.specs.Limits.{IsEnds};
-ghost use Rattle.plan.specs.declared.Mode.the-variants.{Fillets, Dubins};
-ghost use Rattle.plan.specs.Limits.{mostRadius, withinOf, insideOf, inAreaOf, zeroOf, arcRadius, radiusFits};
-ghost use Rattle.plan.specs.Places.{pointOf, courseOf};
+ghost use Rattle.plan.specs.declared.Mode.the-variants.{Lines, Fillets, Dubins};
+ghost use Rattle.plan.specs.Limits.{mostPoints, mostRadius, withinOf, insideOf, inAreaOf, arcRadius, radiusFits};
+ghost use Rattle.plan.specs.Places.{pointOf, courseOf, coursesAt};
 ghost use Rattle.plan.specs.Rules.{modeOf, coursesFit, pairNumber, cornerNumber, tangentNumber, endsNumber, atPlace, pairsOf, cornersOf, legsOf, geometryOn};
-ghost use Rattle.plan.specs.Stands.{givenOf, pointFits, courseFits, valuesFit, placesFit, rulesOf, standsOf, Ranged, Aimed, Turns, Bounded, Counted, Stands};
+ghost use Rattle.plan.specs.Stands.{givenOf, pointFits, courseFits, placesFit, rulesOf, standsOf, Ranged, Aimed, Bounded, Counted, Stands};
 
 // The most points of a plan, and the fewest.
 pub const POINTS: usize = 64;
@@ -74,13 +77,6 @@ pub fn in_area(p: Point) -> bool
     ensures { λ r. ⌜ (r ≡ inAreaOf p) × (r ≡ true → InArea p) ⌝ }
 {
     inside(p, MOST_LEVEL, MOST_DOWN)
-}
-
-// Whether all three numbers are 0.
-fn is_zero(p: Point) -> bool
-    ensures { λ r. ⌜ r ≡ zeroOf p ⌝ }
-{
-    inside(p, 0, 0)
 }
 
 // The mode of a plan with this radius, 0 for none, and courses given at so many points.
@@ -153,39 +149,32 @@ fn pair_number(a: Point, b: Point) -> u8
     }
 }
 
-// 11 where the mode does not fly the corner at b.
-fn corner_number(mode: Mode, a: Point, b: Point, c: Point) -> u8
+// 11 where the legs of a plan of lines are exactly opposite at b.
+fn line_corner_number(a: Point, b: Point, c: Point) -> u8
     requires { ⌜ InArea a × (InArea b × InArea c) ⌝ }
-    ensures { λ r. ⌜ r ≡ cornerNumber mode a b c ⌝ }
+    ensures { λ r. ⌜ r ≡ cornerNumber Lines a b c ⌝ }
 {
-    match mode {
-        Mode::Lines => if plane::opposite(plane::leg_between(a, b), plane::leg_between(b, c)) {
-            11
-        } else {
-            0
-        },
-        Mode::Fillets => if MOST_TURN < fillets::turn_at(a, b, c) {
-            11
-        } else {
-            0
-        },
-        Mode::Dubins => 0,
+    if plane::opposite(plane::leg_between(a, b), plane::leg_between(b, c)) {
+        11
+    } else {
+        0
     }
 }
 
-// 12 where the tangent lengths of a leg's ends exceed it.
+// 12 where the tangent lengths of a leg's ends exceed it, asked of the squares: no root is taken. Two tangent lengths are at most 100560.
 fn tangent_number(a: Point, b: Point, tangents: u64) -> u8
-    requires { ⌜ InArea a × InArea b ⌝ }
+    requires { ⌜ (InArea a × InArea b) × (tangents ≤ 100560) ⌝ }
     ensures { λ r. ⌜ r ≡ tangentNumber a b tangents ⌝ }
 {
-    if tangents <= plane::length(plane::level_leg(a, b)) {
+    if tangents * tangents <= plane::squared(plane::level_leg(a, b)) {
         0
     } else {
         12
     }
 }
 
-// 12 where the ends of a Dubins leg are too close, and then 17 where it has no case.
+// 12 where the ends of a Dubins leg are too close, and then 17 where it has no case. Ends that are far enough apart always have one, except where
+// the radius is 0.
 fn ends_number(ends: Ends) -> u8
     requires { ⌜ IsEnds ends ⌝ }
     ensures { λ r. ⌜ r ≡ endsNumber ends ⌝ }
@@ -193,6 +182,9 @@ fn ends_number(ends: Ends) -> u8
     let start = ends.start;
     let end = ends.end;
     if dubins::far_apart(start, end, ends.radius) {
+        if 0 < ends.radius {
+            return 0;
+        }
         if dubins::has_path(ends) {
             return 0;
         }
@@ -240,19 +232,18 @@ fn pairs(p: Plan) -> Refusal
     }
 }
 
-// 11 at each corner.
-fn corners(p: Plan) -> Refusal
+// 11 at each corner of a plan of lines.
+fn line_corners(p: Plan) -> Refusal
     requires { ⌜ Counted p ⌝ }
-    ensures { λ r. ⌜ r ≡ refusalOf (cornersOf (p .mode) (p .count) (pointOf p)) ⌝ }
+    ensures { λ r. ⌜ r ≡ refusalOf (cornersOf Lines (p .count) (pointOf p)) ⌝ }
 {
-    let mode = p.mode;
     let last = p.count - 1;
     let mut i: usize = 1;
     while i < last {
         let a = p.points[i - 1];
         let b = p.points[i];
         let c = p.points[i + 1];
-        let number = corner_number(mode, a, b, c);
+        let number = line_corner_number(a, b, c);
         if number == 0 {
             i += 1;
         } else {
@@ -268,34 +259,55 @@ fn corners(p: Plan) -> Refusal
     }
 }
 
-// 12 at each leg of a fillet plan, by its end point. The tangent length of the corner before is carried along; the last point is none.
-fn fillet_legs(p: Plan) -> Refusal
-    requires { ⌜ Counted p × Turns p ⌝ }
-    ensures { λ r. ⌜ r ≡ refusalOf (legsOf Fillets (p .radius) (p .count) (pointOf p) (courseOf p)) ⌝ }
+// What the legs before have found, or else 12 of the next leg.
+fn leg_found(found: Refusal, a: Point, b: Point, tangents: u64, place: usize) -> Refusal
+    requires { ⌜ (InArea a × InArea b) × (tangents ≤ 100560) ⌝ }
+    ensures { λ r. ⌜ r ≡ choose (eqb (found .number) 0) (refusalOf (atPlace (tangentNumber a b tangents) place)) found ⌝ }
+{
+    if found.number == 0 {
+        return at_place(tangent_number(a, b, tangents), place);
+    }
+    found
+}
+
+// 11 at each corner, and then 12 at each leg of a fillet plan by its end point, in one pass: the bearing of each leg and the tangent length
+// of each corner are worked out once and carried along. What a leg finds waits until all corners have passed. The last point has no tangent.
+fn fillet_rules(p: Plan) -> Refusal
+    requires { ⌜ Counted p ⌝ }
+    ensures { λ r. ⌜ r ≡ refusalOf (andThen (cornersOf Fillets (p .count) (pointOf p)) (λ (_ : Done). legsOf Fillets (p .radius) (p .count) (pointOf p) (courseOf p))) ⌝ }
 {
     let radius = p.radius as u64;
     let last = p.count - 1;
+    let a = p.points[0];
+    let b = p.points[1];
+    let mut before = course::bearing(plane::level_leg(a, b));
     let mut carried: u64 = 0;
+    let mut found = Refusal {
+        number: 0,
+        place: 0,
+    };
     let mut i: usize = 1;
     while i < last {
         let a = p.points[i - 1];
         let b = p.points[i];
         let c = p.points[i + 1];
-        let tangent = fillets::tangent_length(radius, fillets::turn_at(a, b, c));
-        let number = tangent_number(a, b, carried + tangent);
-        if number == 0 {
-            carried = tangent;
-            i += 1;
-        } else {
+        let after = course::bearing(plane::level_leg(b, c));
+        let turn = fillets::lesser_turn(before, after);
+        if MOST_TURN < turn {
             return Refusal {
-                number,
+                number: 11,
                 place: i + 1,
             };
         }
+        let tangent = fillets::tangent_length(radius, turn);
+        found = leg_found(found, a, b, carried + tangent, i + 1);
+        carried = tangent;
+        before = after;
+        i += 1;
     }
     let a = p.points[last - 1];
     let b = p.points[last];
-    at_place(tangent_number(a, b, carried), last + 1)
+    leg_found(found, a, b, carried, last + 1)
 }
 
 // 12 and 17 at each leg of a Dubins plan, by its end point.
@@ -333,18 +345,15 @@ fn dubins_legs(p: Plan) -> Refusal
     }
 }
 
-// 12 and 17 at each leg.
-fn legs(p: Plan) -> Refusal
-    requires { ⌜ Counted p × (refusalOf (cornersOf (p .mode) (p .count) (pointOf p)) .number ≡ 0) ⌝ }
-    ensures { λ r. ⌜ r ≡ refusalOf (legsOf (p .mode) (p .radius) (p .count) (pointOf p) (courseOf p)) ⌝ }
+// All corners, then all legs. Lines have no rule on legs, and Dubins plans none on corners.
+fn corners_and_legs(p: Plan) -> Refusal
+    requires { ⌜ Counted p ⌝ }
+    ensures { λ r. ⌜ r ≡ refusalOf (andThen (cornersOf (p .mode) (p .count) (pointOf p)) (λ (_ : Done). legsOf (p .mode) (p .radius) (p .count) (pointOf p) (courseOf p))) ⌝ }
 {
     let mode = p.mode;
     match mode {
-        Mode::Lines => Refusal {
-            number: 0,
-            place: 0,
-        },
-        Mode::Fillets => fillet_legs(p),
+        Mode::Lines => line_corners(p),
+        Mode::Fillets => fillet_rules(p),
         Mode::Dubins => dubins_legs(p),
     }
 }
@@ -356,11 +365,7 @@ fn geometry(p: Plan) -> Refusal
 {
     let pair = pairs(p);
     if pair.number == 0 {
-        let corner = corners(p);
-        if corner.number == 0 {
-            return legs(p);
-        }
-        return corner;
+        return corners_and_legs(p);
     }
     pair
 }
@@ -392,54 +397,74 @@ pub fn rules(p: Plan, given: usize) -> Refusal
     }
 }
 
-// Whether a used point lies in the area, or an unused one is zero.
-fn point_fits(used: bool, p: Point) -> bool
-    ensures { λ r. ⌜ r ≡ pointFits used p ⌝ }
+// Whether the points from one place to below another are inside limits of north and east, and of down.
+fn points_inside(p: Plan, from: usize, to: usize, level: u64, down: u64) -> bool
+    requires { ⌜ to ≤ mostPoints ⌝ }
+    ensures { λ r. ⌜ r ≡ every (λ (i : ℕ). insideOf level down (pointOf p i)) (to - from) from ⌝ }
 {
-    if used {
-        return in_area(p);
-    }
-    is_zero(p)
-}
-
-// Whether a used course is one, or an unused one is zero.
-fn course_fits(used: bool, course: u16) -> bool
-    ensures { λ r. ⌜ r ≡ courseFits used course ⌝ }
-{
-    if used {
-        return course < COURSES;
-    }
-    course == 0
-}
-
-// Whether a place's point and course both fit.
-fn values_fit(used: bool, p: Point, aimed: bool, course: u16) -> bool
-    ensures { λ r. ⌜ r ≡ valuesFit used p aimed course ⌝ }
-{
-    if point_fits(used, p) {
-        return course_fits(aimed, course);
-    }
-    false
-}
-
-// Whether every place of a plan fits, the unused ones too.
-fn places_fit(p: Plan) -> bool
-    ensures { λ r. ⌜ (r ≡ placesFit p) × (r ≡ true → Ranged p × Aimed p) ⌝ }
-{
-    let mode = p.mode;
-    let n = p.count;
-    let given = given_of(mode, n);
-    let mut i: usize = 0;
-    while i < POINTS {
+    let mut i = from;
+    while i < to {
         let point = p.points[i];
-        let course = p.courses[i];
-        if values_fit(i < n, point, i < given, course) {
+        if inside(point, level, down) {
             i += 1;
         } else {
             return false;
         }
     }
     true
+}
+
+// Whether the values from one place to below another are below a limit.
+fn values_below(values: &[u16; POINTS], from: usize, to: usize, limit: u16) -> bool
+    requires { ⌜ to ≤ mostPoints ⌝ }
+    ensures { λ r. ⌜ r ≡ every (λ (i : ℕ). ltb (coursesAt (now (values .entry)) i) limit) (to - from) from ⌝ }
+{
+    let mut i = from;
+    while i < to {
+        if values[i] < limit {
+            i += 1;
+        } else {
+            return false;
+        }
+    }
+    true
+}
+
+// Whether the points in use lie in the area and the others are zero.
+fn point_places_fit(p: Plan) -> bool
+    requires { ⌜ p .count ≤ mostPoints ⌝ }
+    ensures { λ r. ⌜ r ≡ every (λ (i : ℕ). pointFits (ltb i (p .count)) (pointOf p i)) (mostPoints - 0) 0 ⌝ }
+{
+    let n = p.count;
+    if points_inside(p, 0, n, MOST_LEVEL, MOST_DOWN) {
+        return points_inside(p, n, POINTS, 0, 0);
+    }
+    false
+}
+
+// Whether the given courses are courses and the others are zero, which is below 1.
+fn course_places_fit(values: &[u16; POINTS], given: usize) -> bool
+    requires { ⌜ given ≤ mostPoints ⌝ }
+    ensures { λ r. ⌜ r ≡ every (λ (i : ℕ). courseFits (ltb i given) (coursesAt (now (values .entry)) i)) (mostPoints - 0) 0 ⌝ }
+{
+    if values_below(values, 0, given, COURSES) {
+        return values_below(values, given, POINTS, 1);
+    }
+    false
+}
+
+// Whether every place of a plan fits, the unused ones too: each kind of place in a loop of its own, with one test a place.
+fn places_fit(p: Plan) -> bool
+    requires { ⌜ p .count ≤ mostPoints ⌝ }
+    ensures { λ r. ⌜ (r ≡ placesFit p) × (r ≡ true → Ranged p × Aimed p) ⌝ }
+{
+    let mode = p.mode;
+    let n = p.count;
+    let given = given_of(mode, n);
+    if point_places_fit(p) {
+        return course_places_fit(&p.courses, given);
+    }
+    false
 }
 
 // Whether a plan breaks no limit and no rule: refusal 14's part on the plan.

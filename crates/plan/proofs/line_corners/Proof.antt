@@ -1,25 +1,26 @@
--- `corners` sweeps the corners for refusal 11. Assumes nothing.
+-- `line_corners` sweeps the corners of a plan of lines for refusal 11. Assumes nothing.
 use Prim.Native.Nat.{_-_}
 use native.Mathlib.Omega.{arith}
 use borrow.Author.Needs.{needs}
+use Rattle.plan.specs.declared.Mode.the-variants.{Lines}
 use Rattle.plan.specs.Places.{pointOf}
 use Rattle.plan.specs.Rules.{cornerAt, cornersOf}
 use Rattle.plan.proofs.PlaceLaws.{corner-ranged}
 use Rattle.plan.proofs.SweptLaws.{Swept, swept-start, swept-next, swept-hit, swept-stop}
-use Rattle.plan.proofs.corners.Statement.{statement}
-use Rattle.plan.proofs.corners.Tie as tie
+use Rattle.plan.proofs.line_corners.Statement.{statement}
+use Rattle.plan.proofs.line_corners.Tie as tie
 
 abbrev Inv-loop : tie.InvT-loop
-Inv-loop p mode last i₀ i = Swept (cornerAt (p .mode) (pointOf p)) (p .count - 1) i
+Inv-loop p last i₀ i = Swept (cornerAt Lines (pointOf p)) (p .count - 1) i
 
 abbrev μ-loop : tie.MeasureT-loop
-μ-loop p mode last i₀ i = p .count - 1 - i
+μ-loop p last i₀ i = p .count - 1 - i
 
 sub-last : tie.Need-sub-last Inv-loop μ-loop
 sub-last c = omega arith
 
 loop-holds : tie.Need-loop-holds Inv-loop μ-loop
-loop-holds c = swept-start (cornerAt (c .args .t1 .mode) (pointOf (c .args .t1))) (c .args .t1 .count - 1)
+loop-holds c = swept-start (cornerAt Lines (pointOf (c .args .t1))) (c .args .t1 .count - 1)
 
 sub-a : tie.Need-sub-a Inv-loop μ-loop
 sub-a c = omega arith
@@ -45,8 +46,8 @@ mul-c c = search needs
 element-copy-out-c : tie.Need-element-copy-out-c Inv-loop μ-loop
 element-copy-out-c c = search needs
 
-corner-number-requires : tie.Need-corner-number-requires Inv-loop μ-loop
-corner-number-requires c κs =
+line-corner-number-requires : tie.Need-line-corner-number-requires Inv-loop μ-loop
+line-corner-number-requires c κs =
     let b = c .before .before .before in
     let s = b .before .before in
     corner-ranged (s .args .t1) (s .pre) (b .before .loop .i) (omega (arith, b .loop-test .taken))
@@ -62,10 +63,10 @@ loop-again c =
     let b = c .before .before .before .before .before in
     let p = b .before .before .args .t1 in
     let l = b .before .loop in
-    swept-next (cornerAt (p .mode) (pointOf p)) (p .count - 1) (l .i) (c .before .corner-number .result) (l .inv) (b .loop-test .taken) (c .before .corner-number .ensures) (c .if1 .taken)
+    swept-next (cornerAt Lines (pointOf p)) (p .count - 1) (l .i) (c .before .line-corner-number .result) (l .inv) (b .loop-test .taken) (c .before .line-corner-number .ensures) (c .if1 .taken)
 
-add-t21 : tie.Need-add-t21 Inv-loop μ-loop
-add-t21 c = omega arith
+add-t20 : tie.Need-add-t20 Inv-loop μ-loop
+add-t20 c = omega arith
 
 returns : tie.Need-returns Inv-loop μ-loop
 unfolding cornersOf
@@ -73,16 +74,16 @@ returns c =
     let b = c .before .before .before .before .before in
     let p = b .before .before .args .t1 in
     let l = b .before .loop in
-    swept-hit (cornerAt (p .mode) (pointOf p)) (p .count - 1) (l .i) (c .before .corner-number .result) (l .inv) (b .loop-test .taken) (c .before .corner-number .ensures) (c .if1 .left)
+    swept-hit (cornerAt Lines (pointOf p)) (p .count - 1) (l .i) (c .before .line-corner-number .result) (l .inv) (b .loop-test .taken) (c .before .line-corner-number .ensures) (c .if1 .left)
 
 returns-2 : tie.Need-returns-2 Inv-loop μ-loop
 unfolding cornersOf
 returns-2 c =
     let p = c .before .before .args .t1 in
-    swept-stop (cornerAt (p .mode) (pointOf p)) (p .count - 1) (c .before .loop .i) (c .before .loop .inv) (c .loop-test .left)
+    swept-stop (cornerAt Lines (pointOf p)) (p .count - 1) (c .before .loop .i) (c .before .loop .inv) (c .loop-test .left)
 
-pub corners-spec : {M : Type 1} → statement M
-corners-spec =
+pub line-corners-spec : {M : Type 1} → statement M
+line-corners-spec =
     tie.close
     (tie.spec
     Inv-loop
@@ -97,10 +98,10 @@ corners-spec =
     add-c
     mul-c
     element-copy-out-c
-    corner-number-requires
+    line-corner-number-requires
     add-i
     loop-less
     loop-again
-    add-t21
+    add-t20
     returns
     returns-2)
