@@ -29,6 +29,11 @@ unfolding both
 both-off-second true b t = t
 both-off-second false b t = refl
 
+pub both-last : (a b : Bool) → b ≡ true → both a b ≡ a
+unfolding both
+both-last true b t = t
+both-last false b t = refl
+
 pub both-true : (a b : Bool) → a ≡ true → b ≡ true → both a b ≡ true
 both-true a b t u = both-on a b t ∙ u
 

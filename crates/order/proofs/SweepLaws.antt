@@ -9,7 +9,7 @@ use Rattle.integers.specs.Choose.{choose}
 use Rattle.integers.proofs.ChooseLaws.{choose-true, choose-false}
 use Rattle.order.specs.Outcome.{Outcome, good, refused, andThen, refusalOf, isGood}
 use Rattle.order.specs.Sweep.{Done, done, sweep, both, every}
-use Rattle.order.proofs.Bools.{by-bool, clash, both-on, both-first, both-second, both-swap, both-both}
+use Rattle.order.proofs.Bools.{by-bool, clash, both-on, both-off, both-off-second, both-last, both-first, both-second, both-swap, both-both}
 use Rattle.order.proofs.OutcomeLaws.{Proper, then-refusal}
 
 -- ---- from place i up to n
@@ -159,3 +159,21 @@ sweep-more f (suc k) i =
 pub sweep-grown : (f : ℕ → ℕ) (k i : ℕ)
     → refusalOf (sweep f (suc k) i) ≡ choose (eqb (refusalOf (sweep f k i) .number) 0) (refusalOf (sweep f 1 (i + k))) (refusalOf (sweep f k i))
 sweep-grown f k i = ap refusalOf (sweep-more f k i) ∙ then-refusal (sweep f k i) (sweep f 1 (i + k)) (proper-sweep f k i)
+
+-- ---- a sweep with no way out, which sums what does not pass: the sum so far is 0, and every place that is left passes
+abbrev pub passing : (ℕ → Bool) → ℕ → ℕ → ℕ → Bool
+passing f sum n i = both (eqb sum 0) (every f (n - i) i)
+
+-- one place more, which adds x: 0 exactly where it passes
+pub passing-next : (f : ℕ → Bool) (sum x n i : ℕ) → i < n → (t : Bool) → f i ≡ t → eqb x 0 ≡ t → passing f sum n i ≡ passing f (sum + x) n (i + 1)
+passing-next f sum x n i h true p q =
+    let e : sum ≡ sum + x = omega (arith, eqb-true x 0 q) in
+    ap (both (eqb sum 0)) (every-next f n i h p) ∙ ap (λ (m : ℕ). both (eqb m 0) (every f (n - (i + 1)) (i + 1))) e
+passing-next f sum x n i h false p q =
+    let e : sum + x ≡ 0 → ⊥ = λ k. eqb-false x 0 q (omega (arith, k)) in
+    both-off-second (eqb sum 0) (every f (n - i) i) (every-hit f n i h p)
+    ∙ sym (both-off (eqb (sum + x) 0) (every f (n - (i + 1)) (i + 1)) (ne-eqb (sum + x) 0 e))
+
+-- and all of them
+pub passing-all : (f : ℕ → Bool) (sum n i : ℕ) → n ≤ i → passing f sum n i ≡ eqb sum 0
+passing-all f sum n i h = both-last (eqb sum 0) (every f (n - i) i) (every-stop f n i h)

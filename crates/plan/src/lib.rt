@@ -414,20 +414,21 @@ fn points_inside(p: Plan, from: usize, to: usize, level: u64, down: u64) -> bool
     true
 }
 
-// Whether the values from one place to below another are below a limit.
+// Whether the values from one place to below another are below a limit. Those that are not are counted: without a way out of the loop the
+// compiler takes several at once.
 fn values_below(values: &[u16; POINTS], from: usize, to: usize, limit: u16) -> bool
     requires { ⌜ to ≤ mostPoints ⌝ }
     ensures { λ r. ⌜ r ≡ every (λ (i : ℕ). ltb (coursesAt (now (values .entry)) i) limit) (to - from) from ⌝ }
 {
+    let mut over: u16 = 0;
     let mut i = from;
     while i < to {
-        if values[i] < limit {
-            i += 1;
-        } else {
-            return false;
+        if limit <= values[i] {
+            over += 1;
         }
+        i += 1;
     }
-    true
+    over == 0
 }
 
 // Whether the points in use lie in the area and the others are zero.

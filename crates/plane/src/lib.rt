@@ -201,13 +201,13 @@ fn cross_size(a: Leg, b: Leg) -> u64
     north + east + down
 }
 
-// Whether two legs are exactly opposite.
+// Whether two legs are exactly opposite. Most legs of a plan are told by the dot product alone.
 pub fn opposite(a: Leg, b: Leg) -> bool
     requires { ⌜ IsLeg a × IsLeg b ⌝ }
     ensures { λ r. ⌜ r ≡ oppositeOf a b ⌝ }
 {
-    if cross_size(a, b) == 0 {
-        return dot3(a, b) < 0;
+    if dot3(a, b) < 0 {
+        return cross_size(a, b) == 0;
     }
     false
 }

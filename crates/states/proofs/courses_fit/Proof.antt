@@ -1,43 +1,29 @@
 -- `courses_fit` decides whether each course fits its type: nothing is over so far exactly where all courses so far fit. Assumes nothing.
-use mathlib.Core.Path.{_≡_, refl, sym, _∙_, ap}
+use mathlib.Core.Path.{_≡_, refl, sym, _∙_}
 use mathlib.Core.Bool.{Bool, true, false}
 use Prim.Native.Nat.{ℕ, _+_, _-_, _*_, _/_, _≤_, _<_}
 use native.Mathlib.Omega.{arith}
 use lib.Dec.{eqb, ltb}
-use borrow.Author.Tests.{ltb-true, ltb-false, ne-eqb}
+use borrow.Author.Tests.{ltb-true, ltb-false, eq-eqb, ne-eqb}
 use borrow.Author.Needs.{needs}
-use Rattle.order.specs.Sweep.{both, every}
-use Rattle.order.proofs.Bools.{both-on, both-off, both-off-second}
-use Rattle.order.proofs.SweepLaws.{every-stop, every-next, every-hit}
+use Rattle.order.specs.Sweep.{every}
+use Rattle.order.proofs.Bools.{both-on}
+use Rattle.order.proofs.SweepLaws.{passing, passing-next, passing-all}
 use Rattle.plan.specs.Limits.{mostPoints}
 use Rattle.states.specs.Stored.{courseAt, courseStored}
 use Rattle.states.proofs.courses_fit.Statement.{statement}
 use Rattle.states.proofs.courses_fit.Tie as tie
 
-both-last : (a b : Bool) → b ≡ true → both a b ≡ a
-unfolding both
-both-last true b t = t
-both-last false b t = refl
-
--- what is over so far, and all that is still to be asked
-abbrev Left : (ℕ → Bool) → ℕ → ℕ → Bool
-Left stored over i = both (eqb over 0) (every stored (mostPoints - i) i)
-
 abbrev Inv-loop : tie.InvT-loop
-Inv-loop words over₀ i₀ over i = (over ≤ 65535 * i) × (every (courseStored words) mostPoints 0 ≡ Left (courseStored words) over i)
+Inv-loop words over₀ i₀ over i = (over ≤ 65535 * i) × (every (courseStored words) mostPoints 0 ≡ passing (courseStored words) over mostPoints i)
 
 abbrev μ-loop : tie.MeasureT-loop
 μ-loop words over₀ i₀ over i = mostPoints - i
 
--- a word more, w
-more : (stored : ℕ → Bool) (over i w : ℕ) → i < mostPoints → (t : Bool) → ltb w 65536 ≡ t → stored i ≡ t → Left stored over i ≡ Left stored (over + w / 65536) (i + 1)
-more stored over i w h true e f =
-    let none : over + w / 65536 ≡ over = omega (arith, ltb-true w 65536 e) in
-    ap (both (eqb over 0)) (every-next stored mostPoints i h f) ∙ ap (λ (n : ℕ). both (eqb n 0) (every stored (mostPoints - (i + 1)) (i + 1))) (sym none)
-more stored over i w h false e f =
-    let some : over + w / 65536 ≡ 0 → ⊥ = λ k. omega (arith, ltb-false w 65536 e, k) in
-    both-off-second (eqb over 0) (every stored (mostPoints - i) i) (every-hit stored mostPoints i h f)
-    ∙ sym (both-off (eqb (over + w / 65536) 0) (every stored (mostPoints - (i + 1)) (i + 1)) (ne-eqb (over + w / 65536) 0 some))
+-- a word fits where nothing of it is over
+fitting : (w : ℕ) (t : Bool) → ltb w 65536 ≡ t → eqb (w / 65536) 0 ≡ t
+fitting w true e = eq-eqb (w / 65536) 0 (omega (arith, ltb-true w 65536 e))
+fitting w false e = ne-eqb (w / 65536) 0 (λ k. omega (arith, ltb-false w 65536 e, k))
 
 loop-holds : tie.Need-loop-holds Inv-loop μ-loop
 loop-holds c = (omega arith, sym (both-on _ _ refl))
@@ -66,13 +52,14 @@ loop-again c =
     let t = c .before in
     let l = t .before in
     let stored = courseStored (l .before .args .words .now) in
-    (omega (arith, c .shared-slice-known .given (199 + l .loop .i)), l .loop .inv .1 ∙ more stored (l .loop .over) (l .loop .i) _ (t .loop-test .taken) _ refl refl)
+    let w = courseAt (l .before .args .words .now) (l .loop .i) in
+    (omega (arith, c .shared-slice-known .given (199 + l .loop .i)), l .loop .inv .1 ∙ passing-next stored (l .loop .over) (w / 65536) mostPoints (l .loop .i) (t .loop-test .taken) (ltb w 65536) refl (fitting w (ltb w 65536) refl))
 
 returns : tie.Need-returns Inv-loop μ-loop
 returns c =
     let l = c .before in
     let stored = courseStored (l .before .args .words .now) in
-    sym (l .loop .inv .1 ∙ both-last _ _ (every-stop stored mostPoints (l .loop .i) (c .loop-test .left)))
+    sym (l .loop .inv .1 ∙ passing-all stored (l .loop .over) mostPoints (l .loop .i) (c .loop-test .left))
 
 pub courses-fit-spec : {M : Type 1} → statement M
 courses-fit-spec =
