@@ -1203,10 +1203,11 @@ fn near_arc(low: f64, high: f64) -> f64 {
 // Near the last edge that (a, b) has reached. A guess, that `edges_reached` tests; only its range is promised. 2^52 - 1/2 is added to have the
 // whole number in the last bits.
 fn near_edge(a: u64, b: u64) -> usize
+    requires { ⌜ (a < 2 ^ 48) × (b < 2 ^ 48) ⌝ }
     ensures { λ r. ⌜ (1 ≤ r) × (r ≤ 1022) ⌝ }
 {
-    let x = std::num::nearest_u64_to_f64(a);
-    let y = std::num::nearest_u64_to_f64(b);
+    let x = (a as i64) as f64;
+    let y = (b as i64) as f64;
     let arc = if b <= a {
         near_arc(y, x)
     } else {

@@ -1,6 +1,6 @@
 // Whole numbers: magnitude, rounding, the square root, long products and sums of courses.
 ghost use mathlib.Core.Path.{_≡_};
-ghost use Prim.Native.Nat.{_+_, _*_, _<_};
+ghost use Prim.Native.Nat.{_+_, _*_, _<_, _^_};
 ghost use lib.Dec.{leb};
 ghost use lib.IntN.{natAbs};
 ghost use Rattle.integers.specs.Floats.{bitsFrom};
@@ -41,9 +41,10 @@ pub fn bits_of(x: f64) -> u64
 // Near the square root: half the exponent, then three of Newton's steps. A guess, that `root` tests; only its range is promised. 2^52 - 1/2 is
 // added to have the whole number in the last bits.
 fn near_root(n: u64) -> u64
+    requires { ⌜ n < 2 ^ 53 ⌝ }
     ensures { λ r. ⌜ r < 4294967296 ⌝ }
 {
-    let x = std::num::nearest_u64_to_f64(n);
+    let x = (n as i64) as f64;
     let a = f64::from_bits(bits_of(x) / 2 % 4611686018427387904 + 2303591209400008704);
     let b = 0.5 * (a + x / a);
     let c = 0.5 * (b + x / b);
@@ -68,15 +69,17 @@ fn root_by_halves(n: u64) -> u64
     low
 }
 
-// The floor of the square root.
+// The floor of the square root. Below 2^53 a number is a float exactly, and its root is guessed.
 pub fn root(n: u64) -> u64
     ensures { λ r. ⌜ r ≡ rootOf n ⌝ }
 {
-    let guess = near_root(n);
-    let square = guess * guess;
-    if square <= n {
-        if n - square <= 2 * guess {
-            return guess;
+    if n < 9007199254740992 {
+        let guess = near_root(n);
+        let square = guess * guess;
+        if square <= n {
+            if n - square <= 2 * guess {
+                return guess;
+            }
         }
     }
     root_by_halves(n)

@@ -53,15 +53,22 @@ pub struct Plan {
     pub courses: [u16; POINTS],
 }
 
-// Whether |z| is at most a limit.
+// Whether |z| is at most a limit: two comparisons, which the compiler makes one.
 fn within(z: i32, most: u64) -> bool
+    requires { ⌜ most ≤ 500000 ⌝ }
     ensures { λ r. ⌜ r ≡ withinOf most z ⌝ }
 {
-    integers::magnitude(z as i64) <= most
+    let wide = z as i64;
+    let limit = most as i64;
+    if wide < 0 - limit {
+        return false;
+    }
+    wide <= limit
 }
 
 // Whether north and east are within one limit and down within another.
 fn inside(p: Point, level: u64, down: u64) -> bool
+    requires { ⌜ (level ≤ 500000) × (down ≤ 500000) ⌝ }
     ensures { λ r. ⌜ r ≡ insideOf level down p ⌝ }
 {
     if within(p.north, level) {
@@ -399,7 +406,7 @@ pub fn rules(p: Plan, given: usize) -> Refusal
 
 // Whether the points from one place to below another are inside limits of north and east, and of down.
 fn points_inside(p: Plan, from: usize, to: usize, level: u64, down: u64) -> bool
-    requires { ⌜ to ≤ mostPoints ⌝ }
+    requires { ⌜ (to ≤ mostPoints) × ((level ≤ 500000) × (down ≤ 500000)) ⌝ }
     ensures { λ r. ⌜ r ≡ every (λ (i : ℕ). insideOf level down (pointOf p i)) (to - from) from ⌝ }
 {
     let mut i = from;

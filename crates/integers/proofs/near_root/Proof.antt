@@ -2,12 +2,15 @@
 use Prim.Native.Nat.{_≤_}
 use native.Mathlib.Omega.{arith}
 use borrow.Author.Needs.{needs}
-use Rattle.integers.proofs.FloatLaws.{plain-bits}
+use Rattle.integers.proofs.FloatLaws.{plain-bits, whole-float}
 use Rattle.integers.proofs.near_root.Statement.{statement}
 use Rattle.integers.proofs.near_root.Tie as tie
 
-nearest-u64-to-f64-requires : tie.Need-nearest-u64-to-f64-requires
-nearest-u64-to-f64-requires c κs = search needs
+cast-x : tie.Need-cast-x
+cast-x c = omega arith
+
+int-to-float-x : tie.Need-int-to-float-x
+int-to-float-x c = whole-float (c .before .args .n) (omega arith)
 
 bits-of-requires : tie.Need-bits-of-requires
 bits-of-requires c κs = search needs
@@ -28,7 +31,8 @@ pub near-root-spec : {M : Type 1} → statement M
 near-root-spec =
     tie.close
     (tie.spec
-    nearest-u64-to-f64-requires
+    cast-x
+    int-to-float-x
     bits-of-requires
     add-a
     float-from-bits-a

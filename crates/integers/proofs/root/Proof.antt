@@ -12,11 +12,11 @@ near-root-requires c κs = search needs
 mul-square : tie.Need-mul-square
 mul-square c = record { fits = square-fits _ (c .near-root .ensures) }
 
-mul-if2 : tie.Need-mul-if2
-mul-if2 c = search needs
+mul-if3 : tie.Need-mul-if3
+mul-if3 c = search needs
 
 returns : tie.Need-returns
-returns c = root-only _ _ (record { low = c .before .if1 .taken; high = omega arith })
+returns c = root-only _ _ (record { low = c .before .if2 .taken; high = omega arith })
 
 root-by-halves-requires : tie.Need-root-by-halves-requires
 root-by-halves-requires c κs = search needs
@@ -27,4 +27,4 @@ returns-2 c = search needs
 pub root-spec : {M : Type 1} → statement M
 root-spec =
     tie.close
-    (tie.spec near-root-requires mul-square mul-if2 returns root-by-halves-requires returns-2)
+    (tie.spec near-root-requires mul-square mul-if3 returns root-by-halves-requires returns-2)
