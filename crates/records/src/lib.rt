@@ -166,11 +166,10 @@ fn row_of(kind: u8) -> Kind
     }
 }
 
-// Whether a reader of a version knows a kind.
-fn knows(reader: u32, kind: u8) -> bool
-    ensures { λ r. ⌜ r ≡ knows reader kind ⌝ }
+// Whether a reader of a version knows the kind of a row.
+fn knows(reader: u32, row: Kind) -> bool
+    ensures { λ r. ⌜ ((kind : ℕ) → row ≡ rowOf kind → r ≡ knows reader kind) ⌝ }
 {
-    let row = row_of(kind);
     if row.since == 0 {
         return false;
     }
@@ -311,11 +310,11 @@ fn value_rule(kind: u8, body: &[u8], before: Tally) -> Effect
     course_rule(body, before)
 }
 
-// A kind that the reader knows. The reader's version does not enter.
-fn known_rule(version: u16, kind: u8, body: &[u8], before: Tally) -> Effect
+// A kind that the reader knows, with its row. The reader's version does not enter.
+fn known_rule(row: Kind, version: u16, kind: u8, body: &[u8], before: Tally) -> Effect
+    requires { ⌜ row ≡ rowOf kind ⌝ }
     ensures { λ x. ⌜ ((a : Parts) → before ≡ tallyOf a → verdictOf a x ≡ knownRule version kind (now (body .entry)) a) ⌝ }
 {
-    let row = row_of(kind);
     if row.since <= version {
         if between(row.low, row.high, body.len()) {
             return value_rule(kind, body, before);
@@ -341,8 +340,9 @@ fn unknown_rule(reader: u32, version: u16, kind: u8) -> Effect
 fn effect_of(reader: u32, version: u16, kind: u8, body: &[u8], before: Tally) -> Effect
     ensures { λ x. ⌜ ((a : Parts) → before ≡ tallyOf a → verdictOf a x ≡ judge reader version kind (now (body .entry)) a) ⌝ }
 {
-    if knows(reader, kind) {
-        return known_rule(version, kind, body, before);
+    let row = row_of(kind);
+    if knows(reader, row) {
+        return known_rule(row, version, kind, body, before);
     }
     unknown_rule(reader, version, kind)
 }
