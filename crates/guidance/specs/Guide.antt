@@ -1,4 +1,4 @@
--- Document 01, "One fix": what each phase commands, its heading, and what ends it. p is the position. Assumes nothing.
+-- Document 01, "One fix", and request 4, the last leg: what each phase commands, its heading, and what ends it. p is the position. Assumes nothing.
 use mathlib.Core.Bool.{Bool}
 use Prim.Native.Nat.{ℕ}
 use lib.Dec.{eqb, ltb}
@@ -10,7 +10,7 @@ use Rattle.course.specs.Direction.{directionOf}
 use Rattle.plane.specs.declared.Point.{Point}
 use Rattle.plane.specs.Area.{legOf, levelOf}
 use Rattle.plane.specs.Level.{minus, dotOf, levelLegOf}
-use Rattle.plane.specs.Half.{metOf}
+use Rattle.plane.specs.Half.{dot3Of, metOf}
 use Rattle.fillets.specs.declared.Corner.{Corner}
 use Rattle.fillets.specs.Corners.{cornerOf}
 use Rattle.dubins.specs.declared.Ends.{Ends}
@@ -28,9 +28,13 @@ fromOf place p = minus (levelOf p) place
 unfoldable pub legHeading : Point → Point → Point → ℕ
 legHeading a b p = lineHeading (levelLegOf a b) (fromOf (levelOf a) p)
 
+-- the line along the leg from a to b, and whether p ends the phase
+unfoldable pub legGuide : Point → Point → Bool → Point → Guidance
+legGuide a b passed p = record { command = lineCommand a b; heading = legHeading a b p; passed = passed }
+
 -- Lines: "the line from point i−1 with the leg as direction", until the half-plane of point i. a, b, c are the points i−1, i, i+1.
 unfoldable pub lineGuide : Point → Point → Point → Point → Guidance
-lineGuide a b c p = record { command = lineCommand a b; heading = legHeading a b p; passed = metOf (legOf b p) (legOf a b) (legOf b c) }
+lineGuide a b c p = legGuide a b (metOf (legOf b p) (legOf a b) (legOf b c)) p
 
 -- a circle at the height of a point, and whether p ends the phase
 unfoldable pub circleGuide : Vector → Point → ℕ → Bool → Bool → Point → Guidance
@@ -43,7 +47,7 @@ pastOf z leg p = leZ (pos 0) (dotOf (fromOf z p) leg)
 
 -- "phase line commands the line that lines mode would", "until (p−z1)·a ≥ 0"
 unfoldable pub filletLine : Point → Point → Corner → Point → Guidance
-filletLine a b corner p = record { command = lineCommand a b; heading = legHeading a b p; passed = pastOf (corner .z1) (levelLegOf a b) p }
+filletLine a b corner p = legGuide a b (pastOf (corner .z1) (levelLegOf a b) p) p
 
 -- "then circle until (p−z2)·b ≥ 0", "down of the point"
 unfoldable pub filletCircle : Point → Point → ℕ → Corner → Point → Guidance
@@ -52,6 +56,14 @@ filletCircle b c R corner p = circleGuide (corner .centre) b R (corner .right) (
 -- phases "fillets 1 line and 2 circle"
 unfoldable pub filletGuide : Point → Point → Point → ℕ → ℕ → Point → Guidance
 filletGuide a b c R phase p = choose (eqb phase 1) (filletLine a b (cornerOf a b c R) p) (filletCircle b c R (cornerOf a b c R) p)
+
+-- Request 4: the last leg, from a to b, is over where (p − b)·(b − a) is at least 0: level for fillets, in three dimensions for lines
+unfoldable pub legEnded : Bool → Point → Point → Point → Bool
+legEnded level a b p = choose level (pastOf (levelOf b) (levelLegOf a b) p) (leZ (pos 0) (dot3Of (legOf b p) (legOf a b)))
+
+-- until then, and after it, the leg's own line is commanded
+unfoldable pub lastLegGuide : Bool → Point → Point → Point → Guidance
+lastLegGuide level a b p = legGuide a b (legEnded level a b p) p
 
 -- Dubins: "(p−z)·D(k)", at least 0 or at most 0
 unfoldable pub reachedOf : Vector → ℕ → Point → Bool

@@ -1,4 +1,5 @@
-// What to follow at a fix: a line or a circle, the heading for it, and whether the phase is over (document 01, "One fix").
+// What to follow at a fix: a line or a circle, the heading for it, and whether the phase is over (document 01, "One fix"; request 4, the last
+// leg).
 use course::Vector;
 use dubins::Ends;
 use dubins::Path;
@@ -13,7 +14,7 @@ ghost use Rattle.plane.specs.Area.{InArea, IsLeg};
 ghost use Rattle.fillets.specs.Corners.{turnOf, IsCorner};
 ghost use Rattle.dubins.specs.Limits.{IsEnds, IsPath};
 ghost use Rattle.guidance.specs.Commands.{senseOf, placeMetres, legMetres, lineCommand, courseCommand, circleCommand};
-ghost use Rattle.guidance.specs.Guide.{fromOf, reachedOf, shortOf, legHeading, lineGuide, pastOf, filletLine, filletCircle, filletGuide, circleGuide, straightGuide, startPassed, endPassed, dubinsGuide};
+ghost use Rattle.guidance.specs.Guide.{fromOf, reachedOf, shortOf, legHeading, legGuide, lineGuide, pastOf, filletLine, filletCircle, filletGuide, legEnded, lastLegGuide, circleGuide, straightGuide, startPassed, endPassed, dubinsGuide};
 
 // A place or a direction, in metres.
 pub struct Metres {
@@ -42,6 +43,11 @@ pub struct Guidance {
     pub heading: usize,
     pub passed: bool,
 }
+
+// How the end of the last leg is looked at: in north and east, or in three dimensions.
+pub const LEVEL: bool = true;
+
+pub const IN_SPACE: bool = false;
 
 // A level place at the height of a point.
 fn place_metres(v: Vector, p: Point) -> Metres
@@ -142,6 +148,18 @@ fn leg_heading(a: Point, b: Point, at: Point) -> usize
     heading::line_heading(plane::level_leg(a, b), from(plane::level(a), at))
 }
 
+// The line along the leg from a to b, until the phase is over.
+fn leg_guide(a: Point, b: Point, passed: bool, at: Point) -> Guidance
+    requires { ⌜ InArea a × (InArea b × InArea at) ⌝ }
+    ensures { λ r. ⌜ (r ≡ legGuide a b passed at) × (r .heading < 4096) ⌝ }
+{
+    Guidance {
+        command: line_command(a, b),
+        heading: leg_heading(a, b, at),
+        passed,
+    }
+}
+
 // Lines: from a to b, until the half-plane of b is met, with c after it.
 pub fn line_guide(a: Point, b: Point, c: Point, at: Point) -> Guidance
     requires { ⌜ InArea a × (InArea b × (InArea c × InArea at)) ⌝ }
@@ -152,11 +170,7 @@ pub fn line_guide(a: Point, b: Point, c: Point, at: Point) -> Guidance
         plane::leg_between(a, b),
         plane::leg_between(b, c),
     );
-    Guidance {
-        command: line_command(a, b),
-        heading: leg_heading(a, b, at),
-        passed,
-    }
+    leg_guide(a, b, passed, at)
 }
 
 // Whether the position lies past a place along a leg.
@@ -192,11 +206,8 @@ fn fillet_line(a: Point, b: Point, corner: Corner, at: Point) -> Guidance
     ensures { λ r. ⌜ (r ≡ filletLine a b corner at) × (r .heading < 4096) ⌝ }
 {
     let z1 = corner.z1;
-    Guidance {
-        command: line_command(a, b),
-        heading: leg_heading(a, b, at),
-        passed: past(z1, plane::level_leg(a, b), at),
-    }
+    let passed = past(z1, plane::level_leg(a, b), at);
+    leg_guide(a, b, passed, at)
 }
 
 // Fillets, phase circle: round the corner at b, until z2 toward c.
@@ -221,6 +232,26 @@ pub fn fillet_guide(a: Point, b: Point, c: Point, radius: u64, phase: u8, at: Po
     } else {
         fillet_circle(b, c, radius, corner, at)
     }
+}
+
+// Whether the position is at b or beyond it along the leg from a.
+fn leg_ended(level: bool, a: Point, b: Point, at: Point) -> bool
+    requires { ⌜ InArea a × (InArea b × InArea at) ⌝ }
+    ensures { λ r. ⌜ r ≡ legEnded level a b at ⌝ }
+{
+    if level {
+        past(plane::level(b), plane::level_leg(a, b), at)
+    } else {
+        0 <= plane::dot3(plane::leg_between(b, at), plane::leg_between(a, b))
+    }
+}
+
+// The last leg, from a to b, until its end.
+pub fn last_leg_guide(level: bool, a: Point, b: Point, at: Point) -> Guidance
+    requires { ⌜ InArea a × (InArea b × InArea at) ⌝ }
+    ensures { λ r. ⌜ (r ≡ lastLegGuide level a b at) × (r .heading < 4096) ⌝ }
+{
+    leg_guide(a, b, leg_ended(level, a, b, at), at)
 }
 
 // The straight part of a Dubins leg, from z1 along its course until z2, at the height of the start.
