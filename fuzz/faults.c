@@ -45,9 +45,11 @@ uint32_t __wrap_farnkuppel_load(const uint8_t *file, size_t length, uint32_t rea
 uint32_t __wrap_farnkuppel_fix(uint32_t *state, size_t states, uint32_t serial, float north, float east, float down, uint32_t *answer,
                                size_t answers, float *command, size_t commands)
 {
+    int last = states >= FARNKUPPEL_STATE_WORDS && state[FARNKUPPEL_STATE_INDEX] == state[FARNKUPPEL_STATE_COUNT];
     uint32_t result = __real_farnkuppel_fix(state, states, serial, north, east, down, answer, answers, command, commands);
     if (result == FARNKUPPEL_TOO_SHORT)
         return result;
+    int arrived = !last && state[FARNKUPPEL_STATE_INDEX] == state[FARNKUPPEL_STATE_COUNT];
     if (FAULT == 7 && result == FARNKUPPEL_NO_POSITION)
         state[FARNKUPPEL_STATE_INDEX]++;
     if (FAULT == 8 && answers > FARNKUPPEL_ANSWER_WORDS)
@@ -58,6 +60,10 @@ uint32_t __wrap_farnkuppel_fix(uint32_t *state, size_t states, uint32_t serial, 
         state[FARNKUPPEL_STATE_PHASE] = answer[FARNKUPPEL_ANSWER_PHASE] = 5;
     if (FAULT == 11 && answer[FARNKUPPEL_ANSWER_KIND] == 1 && command[4] == 0)
         command[4] = -0.0f;
+    if (FAULT == 17 && result == 0 && arrived && state[FARNKUPPEL_STATE_MODE] == 0)
+        state[FARNKUPPEL_STATE_FINISHED] = answer[FARNKUPPEL_ANSWER_FINISHED] = 1;
+    if (FAULT == 18 && result == 0 && last && state[FARNKUPPEL_STATE_MODE] != 2 && command[3] > 0)
+        command[3] = command[0];
     return result;
 }
 

@@ -8,6 +8,10 @@
 #define HEADER 11
 #define NOTE 128
 
+/* Modes in a state's words. */
+#define FILLETS 1
+#define DUBINS 2
+
 static const uint32_t empty[FARNKUPPEL_STATE_WORDS];
 
 static int same_state(const uint32_t *a, const uint32_t *b)
@@ -137,7 +141,69 @@ static void refused_law(const uint32_t *state, uint32_t serial, const float *pos
         HOLD(serial == state[FARNKUPPEL_STATE_SERIAL] && !is_position(position));
 }
 
-/* "at most one phase change follows"; finished stays set. */
+/* ---- the end of a flight: lines and fillets run to point N, and the last leg has no corner behind it */
+
+static int on_last_leg(const uint32_t *state)
+{
+    return state[FARNKUPPEL_STATE_INDEX] == state[FARNKUPPEL_STATE_COUNT];
+}
+
+static uint32_t last_phase(const uint32_t *state)
+{
+    if (state[FARNKUPPEL_STATE_MODE] == DUBINS)
+        return 5;
+    return state[FARNKUPPEL_STATE_MODE] == FILLETS && !on_last_leg(state) ? 2 : 1;
+}
+
+static int at_end(const uint32_t *state)
+{
+    return on_last_leg(state) && state[FARNKUPPEL_STATE_PHASE] == last_phase(state);
+}
+
+/* 14: no fix is accepted at a place that the mode lacks, nor on a state that is finished before its last place. */
+static void place_taken(const uint32_t *state)
+{
+    HOLD(state[FARNKUPPEL_STATE_INDEX] >= 2 && state[FARNKUPPEL_STATE_INDEX] <= state[FARNKUPPEL_STATE_COUNT]);
+    HOLD(state[FARNKUPPEL_STATE_PHASE] >= 1 && state[FARNKUPPEL_STATE_PHASE] <= last_phase(state));
+    HOLD(!state[FARNKUPPEL_STATE_FINISHED] || at_end(state));
+}
+
+/* The coordinates of a point, from 1, in decimetres. */
+static const int32_t *point_of(const uint32_t *state, uint32_t number)
+{
+    return (const int32_t *)state + FARNKUPPEL_STATE_POINTS + 3 * (number - 1);
+}
+
+static uint32_t metres_bits(int32_t decimetres)
+{
+    float metres = (float)decimetres / 10.0f;
+    uint32_t bits;
+    memcpy(&bits, &metres, sizeof bits);
+    return bits;
+}
+
+/* Lines and fillets are led along the leg from point N-1 to N, from the first to the last number of the command. */
+static void last_leg_law(const uint32_t *state, const struct fix *fix)
+{
+    uint32_t count = state[FARNKUPPEL_STATE_COUNT];
+    const int32_t *start = point_of(state, count - 1), *end = point_of(state, count);
+    HOLD(fix->answer[FARNKUPPEL_ANSWER_KIND] == 1);
+    for (int i = 0; i < 3; i++) {
+        HOLD(fix->command[i] == metres_bits(start[i]));
+        HOLD(fix->command[3 + i] == metres_bits(end[i] - start[i]));
+    }
+}
+
+/* A fix at the last point ends a flight that has come to its last phase. */
+static void end_law(const uint32_t *state)
+{
+    const int32_t *end = point_of(state, state[FARNKUPPEL_STATE_COUNT]);
+    float there[3] = {(float)end[0] / 10.0f, (float)end[1] / 10.0f, (float)end[2] / 10.0f};
+    struct fix fix = fix_of(state, state[FARNKUPPEL_STATE_SERIAL], there);
+    HOLD(fix.result == FARNKUPPEL_NONE && fix.state[FARNKUPPEL_STATE_FINISHED] == 1);
+}
+
+/* "at most one phase change follows"; finished is set at the last place, where nothing else moves, and stays set. */
 static void moved_law(const uint32_t *before, const uint32_t *after)
 {
     uint32_t index = after[FARNKUPPEL_STATE_INDEX] - before[FARNKUPPEL_STATE_INDEX];
@@ -145,6 +211,8 @@ static void moved_law(const uint32_t *before, const uint32_t *after)
     HOLD(same_plan(before, after));
     HOLD((index == 0 && phase <= 1) || (index == 1 && after[FARNKUPPEL_STATE_PHASE] == 1));
     HOLD(after[FARNKUPPEL_STATE_FINISHED] >= before[FARNKUPPEL_STATE_FINISHED]);
+    if (after[FARNKUPPEL_STATE_FINISHED])
+        HOLD(index == 0 && phase == 0 && at_end(before));
     if (before[FARNKUPPEL_STATE_FINISHED])
         HOLD(same_state(before, after));
 }
@@ -169,8 +237,13 @@ struct fix fix_laws(const uint32_t *state, uint32_t serial, const float *positio
         refused_law(state, serial, position, &fix);
     } else {
         HOLD(serial == state[FARNKUPPEL_STATE_SERIAL] && is_position(position));
+        place_taken(state);
         moved_law(state, fix.state);
         command_law(&fix);
+        if (on_last_leg(state) && state[FARNKUPPEL_STATE_MODE] != DUBINS)
+            last_leg_law(state, &fix);
+        if (at_end(state))
+            end_law(state);
     }
     return fix;
 }

@@ -47,7 +47,13 @@ enum farnkuppel_refusal_number {
 };
 
 /* A state: so many words, at these places. Signed numbers are in two's complement. Points have three words each, north, east and down in
- * decimetres; 64 places are always there, and those past the count are 0. */
+ * decimetres; 64 places are always there, and those past the count are 0.
+ * The index is the number of the point that is flown to, from 2 to the count in every mode. Phases: lines have 1 only; fillets have 1 on a line
+ * and 2 on the circle of a corner, and on the last leg, where the index is the count, 1 only; Dubins plans have 1 to 5. Finished is set by a fix
+ * at the last point or past it (lines: in three dimensions, fillets: in north and east, along the last leg; Dubins: along the last course), and
+ * then stays set. It is 1 only at the last index and phase: the count and 1 in lines and fillets, the count and 5 in Dubins plans. Words with
+ * another index, phase or finished are refused FARNKUPPEL_NO_STATE. So are words that an earlier version of this library saved as finished at the
+ * point before the last, where it ended lines and fillets: load the plan again. */
 #define FARNKUPPEL_STATE_WORDS 263
 #define FARNKUPPEL_STATE_SERIAL 0
 #define FARNKUPPEL_STATE_MODE 1        /* 0 lines, 1 fillets, 2 Dubins */
@@ -55,7 +61,7 @@ enum farnkuppel_refusal_number {
 #define FARNKUPPEL_STATE_COUNT 3
 #define FARNKUPPEL_STATE_INDEX 4
 #define FARNKUPPEL_STATE_PHASE 5
-#define FARNKUPPEL_STATE_FINISHED 6
+#define FARNKUPPEL_STATE_FINISHED 6    /* 0 or 1 */
 #define FARNKUPPEL_STATE_POINTS 7
 #define FARNKUPPEL_STATE_COURSES 199
 
@@ -92,7 +98,8 @@ uint32_t farnkuppel_load(const uint8_t *file, size_t file_length, uint32_t reade
                          size_t answer_length);
 
 /* One position fix, in metres, for the plan with a serial. Writes the next state to `state`, which a refused fix leaves as it was, the first
- * FARNKUPPEL_ANSWER_WORDS of `answer` and the first FARNKUPPEL_COMMAND_NUMBERS of `command`. */
+ * FARNKUPPEL_ANSWER_WORDS of `answer` and the first FARNKUPPEL_COMMAND_NUMBERS of `command`. The command is that of the index and phase before
+ * the fix: the fix that reaches a point still gets the leg to it, and the one that finishes a flight the last leg, as does every fix after it. */
 uint32_t farnkuppel_fix(uint32_t *state, size_t state_length, uint32_t serial, float north, float east, float down, uint32_t *answer,
                         size_t answer_length, float *command, size_t command_length);
 

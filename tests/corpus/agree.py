@@ -3,9 +3,9 @@
 
 usage: agree.py CORPUS BIN    (BIN: target/bin after `rt check`)
 
-CORPUS holds plans/, listings/, loads.tsv, notes.tsv, writes.tsv, flights.tsv. Prints a line for each file of answers and leaves with 1 where
-one differs. The flights are flown twice: as they stand, and with STRAYS fixes of no plan behind each fix, which change no state and make a
-flight longer than a chunk of the program.
+CORPUS holds plans/, listings/, loads.tsv, notes.tsv, writes.tsv, flights.tsv, and the flights of request 4 (tables.py). Prints a line for each
+file of answers and leaves with 1 where one differs, or where none was compared. The flights are flown twice: as they stand, and with STRAYS
+fixes of no plan behind each fix, which change no state and make a flight longer than a chunk of the program.
 """
 import struct
 import subprocess
@@ -13,14 +13,10 @@ import sys
 import tempfile
 from pathlib import Path
 
+from tables import LAST_LEG, before_the_end, flights, rows
+
 MOST = 60000  # bytes of questions in one run, below the program's buffer
 STRAYS = 7
-
-
-def rows(path):
-    lines = path.read_text().splitlines()
-    names = lines[0].split("\t")
-    return [dict(zip(names, line.split("\t"))) for line in lines[1:]]
 
 
 def question(letter, number, room, file):
@@ -43,17 +39,7 @@ def report(name, expected, got):
     print(f"{name}: {len(expected)} rows, {len(wrong) + abs(len(expected) - len(got))} differ")
     for i in wrong[:3]:
         print(f"  row {i + 1}: expected {expected[i][:120]}, got {got[i][:120]}")
-    return not wrong and len(expected) == len(got)
-
-
-def flights(path):
-    """The rows of each flight: a new one starts where the fix number returns to 1."""
-    found = []
-    for r in rows(path):
-        if r["fix"] == "1":
-            found.append([])
-        found[-1].append(r)
-    return found
+    return bool(expected) and not wrong and len(expected) == len(got)
 
 
 def packed(serial, numbers):
@@ -89,9 +75,13 @@ def flown(program, plan, reader, fixes):
         return subprocess.run([program, reader, *files], stdout=subprocess.PIPE, check=True).stdout.decode().splitlines()
 
 
-def main():
-    corpus, programs = Path(sys.argv[1]), Path(sys.argv[2])
-    plans = {p.stem: p.read_bytes() for p in (corpus / "plans").glob("*.wpl")}
+def plans_of(corpus):
+    return {p.stem: p.read_bytes() for p in (corpus / "plans").glob("*.wpl")}
+
+
+def files_agree(corpus, programs):
+    """Loads, notes, writes and listings."""
+    plans = plans_of(corpus)
     fit = lambda r: len(plans[r["file"]]) + 9 <= MOST
     answer = programs / "answers"
 
@@ -111,15 +101,34 @@ def main():
 
     names = sorted(plans)
     listed = [subprocess.run([programs / "listing"], input=plans[n], stdout=subprocess.PIPE, check=True).stdout for n in names]
-    good &= report("listings", [(corpus / "listings" / f"{n}.txt").read_text() for n in names], [x.decode() for x in listed])
+    return good & report("listings", [(corpus / "listings" / f"{n}.txt").read_text() for n in names], [x.decode() for x in listed])
 
+
+def flights_agree(name, plans, flown_rows, programs):
+    good = True
     for strays in [0, STRAYS]:
         expected, got = [], []
-        for f in flights(corpus / "flights.tsv"):
+        for f in flown_rows:
             fixes, lines = flight(f, strays)
             expected += lines
             got += flown(programs / "fly", plans[f[0]["file"]], f[0]["reader"], fixes)
-        good &= report(f"flights.tsv, {strays} strays", expected, got)
+        good &= report(f"{name}, {strays} strays", expected, got)
+    return good
+
+
+def standing_flights(corpus):
+    """The flights that request 4 leaves: those of Dubins plans whole, others up to their end."""
+    dubins = lambda f: "mode dubins" in (corpus / "listings" / f"{f[0]['file']}.txt").read_text()
+    kept = [f if dubins(f) else before_the_end(f) for f in flights(corpus / "flights.tsv")]
+    return [f for f in kept if f]
+
+
+def main():
+    corpus, programs = Path(sys.argv[1]), Path(sys.argv[2])
+    last_leg = corpus / LAST_LEG
+    good = files_agree(corpus, programs)
+    good &= flights_agree("flights.tsv", plans_of(corpus), standing_flights(corpus), programs)
+    good &= flights_agree(f"{LAST_LEG}/flights.tsv", plans_of(last_leg), flights(last_leg / "flights.tsv"), programs)
     sys.exit(0 if good else 1)
 
 

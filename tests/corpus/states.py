@@ -3,7 +3,8 @@
 
 usage: states.py CORPUS ARCHIVE    (ARCHIVE: target/staticlib/libautopilot.a, from `rt staticlib autopilot`)
 
-CORPUS holds states.tsv: 4,000 states, most of them broken, each with a fix and a write. Leaves with 1 where an answer differs.
+CORPUS holds states.tsv, most of them broken, each with a fix and a write, and the states of request 4 (tables.py). Leaves with 1 where an answer
+differs, or where none was compared.
 """
 import ctypes
 import struct
@@ -11,6 +12,8 @@ import subprocess
 import sys
 import tempfile
 from pathlib import Path
+
+from tables import LAST_LEG, rows, state_stands
 
 STATE, POINTS, COURSES = 263, 7, 199
 KINDS = {"none": 0, "line": 1, "circle": 2}
@@ -52,20 +55,25 @@ def wrote(library, row, words):
     return list(answer)
 
 
+def states_agree(name, library, asked, total):
+    stored = [(row, words) for row in asked for words in [words_of(row)] if words]
+    fixes = sum(1 for row, words in stored if fixed(library, row, words)[0] != wanted(row))
+    kept = sum(1 for row, words in stored if row["a_refusal"] != "0" and fixed(library, row, words)[1] != words)
+    writes = sum(1 for row, words in stored if wrote(library, row, words) != [int(row[k]) for k in ("w_refusal", "w_place", "w_length")])
+    print(f"{name}: {len(stored)} of {total} rows asked; {fixes} fixes differ, {kept} refused fixes change words, {writes} writes differ")
+    return bool(stored) and not (fixes or kept or writes)
+
+
 def main():
     corpus, archive = Path(sys.argv[1]), sys.argv[2]
     with tempfile.TemporaryDirectory() as folder:
         shared = f"{folder}/autopilot.so"
         subprocess.run(["cc", "-shared", "-o", shared, "-Wl,--whole-archive", archive, "-Wl,--no-whole-archive"], check=True)
         library = ctypes.CDLL(shared)
-    lines = (corpus / "states.tsv").read_text().splitlines()
-    rows = [dict(zip(lines[0].split("\t"), line.split("\t"))) for line in lines[1:]]
-    stored = [(row, words) for row in rows for words in [words_of(row)] if words]
-    fixes = sum(1 for row, words in stored if fixed(library, row, words)[0] != wanted(row))
-    kept = sum(1 for row, words in stored if row["a_refusal"] != "0" and fixed(library, row, words)[1] != words)
-    writes = sum(1 for row, words in stored if wrote(library, row, words) != [int(row[k]) for k in ("w_refusal", "w_place", "w_length")])
-    print(f"states.tsv: {len(stored)} of {len(rows)} rows fit words; {fixes} fixes differ, {kept} refused fixes change words, {writes} writes differ")
-    sys.exit(1 if fixes or kept or writes else 0)
+    states, last_leg = rows(corpus / "states.tsv"), rows(corpus / LAST_LEG / "states.tsv")
+    good = states_agree("states.tsv", library, [row for row in states if state_stands(row)], len(states))
+    good &= states_agree(f"{LAST_LEG}/states.tsv", library, last_leg, len(last_leg))
+    sys.exit(0 if good else 1)
 
 
 main()

@@ -1,13 +1,13 @@
 -- What a valid state gives: its index is a place of the plan, its points lie in the area, a fillet corner turns at most 1,792, and a Dubins
--- leg has a path. Assumes nothing.
-use mathlib.Core.Path.{_≡_, refl, sym, ap, _∙_, subst}
-use mathlib.Core.Bool.{Bool, true, false}
+-- leg has a path. Where the last leg and the last phase are. Assumes nothing.
+use mathlib.Core.Path.{_≡_, refl, _∙_, subst}
+use mathlib.Core.Bool.{true, false}
 use Prim.Native.Nat.{ℕ, _+_, _-_, _≤_, _<_}
 use native.Mathlib.Omega.{arith}
-use lib.Dec.{eqb, leb}
-use borrow.Author.Tests.{leb-true}
+use borrow.Author.Tests.{leb-true, eqb-true, eqb-false}
+use Rattle.integers.specs.Choose.{choose}
 use Rattle.order.specs.Sweep.{both}
-use Rattle.order.proofs.Bools.{both-first, both-second}
+use Rattle.order.proofs.Bools.{by-bool, both-first, both-second}
 use Rattle.plane.specs.Area.{InArea}
 use Rattle.fillets.specs.Corners.{turnOf}
 use Rattle.dubins.specs.declared.Path.{Path}
@@ -17,14 +17,13 @@ use Rattle.dubins.specs.Choice.{shortestOf, hasPathOf}
 use Rattle.dubins.proofs.ShortestLaws.{found-when}
 use Rattle.plan.specs.declared.Mode.{Mode}
 use Rattle.plan.specs.declared.Mode.the-variants.{Lines, Fillets, Dubins}
-use Rattle.plan.specs.declared.Plan.{Plan}
 use Rattle.plan.specs.Limits.{mostPoints, mostRadius, mostTurn}
 use Rattle.plan.specs.Places.{pointOf, courseOf}
 use Rattle.plan.specs.Rules.{endsAt}
-use Rattle.plan.specs.Stands.{standsOf, ByMode, Stands}
+use Rattle.plan.specs.Stands.{standsOf, ByMode}
 use Rattle.plan.proofs.StandLaws.{stands-means}
 use Rattle.manager.specs.declared.State.{State}
-use Rattle.manager.specs.State.{lastIndex, lastPhase, indexFits, phaseFits, endFits, placedOf, validOf, Valid}
+use Rattle.manager.specs.State.{lastIndex, onLastLeg, lastPhase, lastPhaseHere, indexFits, phaseFits, endFits, placedOf, validOf, Valid}
 use Rattle.manager.specs.Step.{endsOf}
 
 -- ---- validity, test by test
@@ -44,60 +43,69 @@ valid-means s h =
     record {
       stands = stands-means (s .plan) (valid-stands s h);
       least = leb-true 2 (s .index) (both-first _ _ index);
-      most = leb-true (s .index) (lastIndex (s .plan .mode) (s .plan .count)) (both-second _ _ index);
+      most = leb-true (s .index) (lastIndex (s .plan .count)) (both-second _ _ index);
       first = leb-true 1 (s .phase) (both-first _ _ phase);
-      last = leb-true (s .phase) (lastPhase (s .plan .mode)) (both-second _ _ phase);
+      last = leb-true (s .phase) (lastPhaseHere s) (both-second _ _ phase);
     }
 
--- ---- the index
-pub last-most : (m : Mode) (n : ℕ) → lastIndex m n ≤ n
+-- ---- the index and the phase
+pub last-is : (n : ℕ) → lastIndex n ≡ n
 unfolding lastIndex
-last-most Lines n = omega arith
-last-most Fillets n = omega arith
-last-most Dubins n = omega arith
+last-is n = refl
 
-pub phase-most : (m : Mode) → lastPhase m ≤ 5
+pub on-last : (n i : ℕ) → onLastLeg n i ≡ true → i ≡ n
+unfolding onLastLeg
+on-last n i h = eqb-true i (lastIndex n) h ∙ last-is n
+
+pub before-last : (n i : ℕ) → onLastLeg n i ≡ false → i ≤ lastIndex n → i < lastIndex n
+unfolding onLastLeg
+before-last n i h l =
+    let ne : i ≡ lastIndex n → ⊥ = eqb-false i (lastIndex n) h in
+    omega arith
+
+-- Dubins plans have the last phase that they had before request 4, at every index
+pub dubins-phase : (n i : ℕ) → lastPhase Dubins n i ≡ 5
 unfolding lastPhase
-phase-most Lines = omega arith
-phase-most Fillets = omega arith
-phase-most Dubins = omega arith
+dubins-phase n i = refl
 
-pub lines-last : {m : Mode} (n : ℕ) → m ≡ Lines → lastIndex m n ≡ n - 1
-unfolding lastIndex
-lines-last n e = rw e
-
-pub fillets-last : {m : Mode} (n : ℕ) → m ≡ Fillets → lastIndex m n ≡ n - 1
-unfolding lastIndex
-fillets-last n e = rw e
+pub phase-one : (m : Mode) (n i : ℕ) → 1 ≤ lastPhase m n i
+unfolding lastPhase choose
+phase-one Lines n i = omega arith
+phase-one Fillets n i = by-bool (onLastLeg n i) (λ t. rw t (omega arith)) (λ t. rw t (omega arith))
+phase-one Dubins n i = omega arith
 
 module _ (s : State) (v : Valid s) where
   pub index-most : s .index ≤ mostPoints
   index-most =
       let h = v .stands .most in
-      omega (arith, v .most, last-most (s .plan .mode) (s .plan .count))
+      omega (arith, v .most, last-is (s .plan .count))
 
   -- a place before the index or below the count
   pub area : (i : ℕ) → i < mostPoints → InArea (pointOf (s .plan) i)
   area = v .stands .ranged
 
-  pub lines-inner : s .plan .mode ≡ Lines → s .index < s .plan .count
-  lines-inner e =
-      let h = v .stands .least in
-      omega (arith, v .most, v .least, lines-last (s .plan .count) e)
+  -- a point comes behind the one that is flown to
+  pub inner : onLastLeg (s .plan .count) (s .index) ≡ false → s .index < s .plan .count
+  inner h = omega (arith, before-last (s .plan .count) (s .index) h (v .most), last-is (s .plan .count))
 
-  pub fillets-inner : s .plan .mode ≡ Fillets → s .index < s .plan .count
-  fillets-inner e =
-      let h = v .stands .least in
-      omega (arith, v .most, v .least, fillets-last (s .plan .count) e)
+  -- the points of the leg that is flown, and the one behind it
+  pub leg-start : InArea (pointOf (s .plan) (s .index - 2))
+  leg-start = area (s .index - 2) (omega (arith, v .least, index-most))
+
+  pub leg-end : InArea (pointOf (s .plan) (s .index - 1))
+  leg-end = area (s .index - 1) (omega (arith, v .least, index-most))
+
+  pub beyond : onLastLeg (s .plan .count) (s .index) ≡ false → InArea (pointOf (s .plan) (s .index))
+  beyond h = area (s .index) (omega (arith, inner h, v .stands .most))
 
   -- ---- fillets: the radius and the turn at the index
-  pub fillets-corner : s .plan .mode ≡ Fillets
+  pub fillets-corner : s .plan .mode ≡ Fillets → onLastLeg (s .plan .count) (s .index) ≡ false
       → (s .plan .radius ≤ mostRadius) × (turnOf (pointOf (s .plan) (s .index - 2)) (pointOf (s .plan) (s .index - 1)) (pointOf (s .plan) (s .index)) ≤ mostTurn)
-  fillets-corner e =
+  fillets-corner e f =
       let i = s .index in
       let p = s .plan in
       let l = v .least in
-      let inner = fillets-inner e in
+      let n = inner f in
       let h : ByMode Fillets p = subst (λ (m : Mode). ByMode m p) e (v .stands .mode) in
       let before : i - 1 - 1 ≡ i - 2 = omega arith in
       let after : i - 1 + 1 ≡ i = omega arith in (
@@ -127,7 +135,7 @@ module _ (s : State) (v : Valid s) where
       let i = s .index in
       let p = s .plan in
       let l = v .least in
-      let n : i ≤ p .count = omega (arith, v .most, last-most (p .mode) (p .count)) in
+      let n : i ≤ p .count = omega (arith, v .most, last-is (p .count)) in
       let h : ByMode Dubins p = subst (λ (m : Mode). ByMode m p) e (v .stands .mode) in
       let before : i - 1 - 1 ≡ i - 2 = omega arith in
       subst (λ (j : ℕ). hasPathOf (endsAt (p .radius) (pointOf p) (courseOf p) j (i - 1)) ≡ true) before (h .1 .1 (i - 1) (omega arith) (omega arith))

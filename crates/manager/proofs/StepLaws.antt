@@ -1,10 +1,10 @@
 -- Laws of one fix: which answer when; a refused fix returns its state; a step keeps the plan, its serial and validity. Assumes nothing.
 use mathlib.Core.Path.{_≡_, refl, sym, ap, _∙_}
 use mathlib.Core.Bool.{Bool, true, false}
-use Prim.Native.Nat.{ℕ, _+_, _≤_, _<_}
+use Prim.Native.Nat.{ℕ, _+_, _<_}
 use native.Mathlib.Omega.{arith}
 use lib.Dec.{eqb, leb, ltb}
-use borrow.Author.Tests.{eqb-false, leb-true, ltb-true, ltb-false, le-leb, eq-eqb, ne-eqb}
+use borrow.Author.Tests.{leb-true, ltb-true, ltb-false, le-leb, eq-eqb, ne-eqb}
 use Rattle.integers.specs.Choose.{choose}
 use Rattle.order.specs.Sweep.{both}
 use Rattle.integers.proofs.ChooseLaws.{choose-true, choose-false}
@@ -14,15 +14,13 @@ use Rattle.units.specs.declared.Fix.{Fix}
 use Rattle.units.specs.declared.Position.{Position}
 use Rattle.units.specs.declared.Position.the-variants.{At, Nowhere}
 use Rattle.units.specs.Position.{positionOf}
-use Rattle.plan.specs.declared.Mode.{Mode}
-use Rattle.plan.specs.declared.Mode.the-variants.{Lines, Fillets, Dubins}
 use Rattle.plan.specs.declared.Plan.{Plan}
 use Rattle.plan.specs.Stands.{standsOf}
 use Rattle.manager.specs.declared.State.{State}
 use Rattle.manager.specs.declared.Stepped.{Stepped}
-use Rattle.manager.specs.State.{lastIndex, lastPhase, atEnd, indexFits, phaseFits, endFits, placedOf, validOf}
+use Rattle.manager.specs.State.{lastIndex, onLastLeg, lastPhase, lastPhaseHere, atEnd, indexFits, phaseFits, endFits, placedOf, validOf}
 use Rattle.manager.specs.Step.{guideHere, nextOf, refuseOf, movedOf, locatedStep, stepOf}
-use Rattle.manager.proofs.StateLaws.{valid-stands, valid-placed}
+use Rattle.manager.proofs.StateLaws.{valid-stands, valid-placed, before-last, phase-one}
 
 -- ---- which answer when
 module _ (s : State) (serial : ℕ) (fix : Fix) where
@@ -97,8 +95,8 @@ next-plan : (s : State) (passed : Bool) → nextOf s passed .plan ≡ s .plan
 unfolding nextOf choose
 next-plan s false = refl
 next-plan s true =
-    by-bool (ltb (s .phase) (lastPhase (s .plan .mode))) (λ t. rw t)
-    (λ t. by-bool (eqb (s .index) (lastIndex (s .plan .mode) (s .plan .count))) (λ u. rw (t, u)) (λ u. rw (t, u)))
+    by-bool (ltb (s .phase) (lastPhaseHere s)) (λ t. rw t)
+    (λ t. by-bool (onLastLeg (s .plan .count) (s .index)) (λ u. rw (t, u)) (λ u. rw (t, u)))
 
 goes-plan : {s t : State} → Goes s t → t .plan ≡ s .plan
 goes-plan stays = refl
@@ -131,12 +129,6 @@ placed : (s : State) → indexFits s ≡ true → phaseFits s ≡ true → endFi
 unfolding placedOf
 placed s a b c = both-true (indexFits s) (both (phaseFits s) (endFits s)) a (both-true (phaseFits s) (endFits s) b c)
 
-phase-one : (m : Mode) → 1 ≤ lastPhase m
-unfolding lastPhase
-phase-one Lines = omega arith
-phase-one Fillets = omega arith
-phase-one Dubins = omega arith
-
 module _ (s : State) (h : placedOf s ≡ true) where
   index-fits : indexFits s ≡ true
   unfolding placedOf
@@ -149,52 +141,55 @@ module _ (s : State) (h : placedOf s ≡ true) where
   phase-fits : phaseFits s ≡ true
   phase-fits = both-first (phaseFits s) (endFits s) rest-fits
 
-  end-fits : endFits s ≡ true
+  pub end-fits : endFits s ≡ true
   end-fits = both-second (phaseFits s) (endFits s) rest-fits
 
   abbrev last : ℕ
-  last = lastIndex (s .plan .mode) (s .plan .count)
+  last = lastIndex (s .plan .count)
+
+  abbrev on-last : Bool
+  on-last = onLastLeg (s .plan .count) (s .index)
 
   -- the next phase
-  phase-placed : ltb (s .phase) (lastPhase (s .plan .mode)) ≡ true
+  phase-placed : ltb (s .phase) (lastPhaseHere s) ≡ true
       → placedOf (at s (s .index) (s .phase + 1) (s .finished)) ≡ true
   unfolding indexFits phaseFits atEnd
   phase-placed t =
-      let l : s .phase < lastPhase (s .plan .mode) = ltb-true (s .phase) (lastPhase (s .plan .mode)) t in
-      let not-last : eqb (s .phase) (lastPhase (s .plan .mode)) ≡ false = ne-eqb (s .phase) (lastPhase (s .plan .mode)) (λ e. omega arith) in
-      let n : atEnd s ≡ false = both-off-second (eqb (s .index) last) (eqb (s .phase) (lastPhase (s .plan .mode))) not-last in
+      let l : s .phase < lastPhaseHere s = ltb-true (s .phase) (lastPhaseHere s) t in
+      let not-last : eqb (s .phase) (lastPhaseHere s) ≡ false = ne-eqb (s .phase) (lastPhaseHere s) (λ e. omega arith) in
+      let n : atEnd s ≡ false = both-off-second on-last (eqb (s .phase) (lastPhaseHere s)) not-last in
       placed (at s (s .index) (s .phase + 1) (s .finished)) index-fits
-      (both-true (leb 1 (s .phase + 1)) (leb (s .phase + 1) (lastPhase (s .plan .mode))) (le-leb 1 (s .phase + 1) (omega arith)) (le-leb (s .phase + 1) (lastPhase (s .plan .mode)) (omega arith)))
+      (both-true (leb 1 (s .phase + 1)) (leb (s .phase + 1) (lastPhaseHere s)) (le-leb 1 (s .phase + 1) (omega arith)) (le-leb (s .phase + 1) (lastPhaseHere s) (omega arith)))
       (going (at s (s .index) (s .phase + 1) (s .finished)) (unfinished s end-fits n))
 
   -- the end
-  end-placed : ltb (s .phase) (lastPhase (s .plan .mode)) ≡ false → eqb (s .index) last ≡ true → placedOf (at s (s .index) (s .phase) true) ≡ true
+  end-placed : ltb (s .phase) (lastPhaseHere s) ≡ false → on-last ≡ true → placedOf (at s (s .index) (s .phase) true) ≡ true
   unfolding indexFits phaseFits atEnd
   end-placed t u =
-      let a = ltb-false (s .phase) (lastPhase (s .plan .mode)) t in
-      let b = leb-true (s .phase) (lastPhase (s .plan .mode)) (both-second (leb 1 (s .phase)) (leb (s .phase) (lastPhase (s .plan .mode))) phase-fits) in
-      let e : s .phase ≡ lastPhase (s .plan .mode) = omega arith in
+      let a = ltb-false (s .phase) (lastPhaseHere s) t in
+      let b = leb-true (s .phase) (lastPhaseHere s) (both-second (leb 1 (s .phase)) (leb (s .phase) (lastPhaseHere s)) phase-fits) in
+      let e : s .phase ≡ lastPhaseHere s = omega arith in
       placed (at s (s .index) (s .phase) true) index-fits phase-fits
-      (ended (at s (s .index) (s .phase) true) (both-true (eqb (s .index) last) (eqb (s .phase) (lastPhase (s .plan .mode))) u (eq-eqb (s .phase) (lastPhase (s .plan .mode)) e)))
+      (ended (at s (s .index) (s .phase) true) (both-true on-last (eqb (s .phase) (lastPhaseHere s)) u (eq-eqb (s .phase) (lastPhaseHere s) e)))
 
   -- the next index
-  index-placed : eqb (s .index) last ≡ false → placedOf (at s (s .index + 1) 1 (s .finished)) ≡ true
+  index-placed : on-last ≡ false → placedOf (at s (s .index + 1) 1 (s .finished)) ≡ true
   unfolding indexFits phaseFits atEnd
   index-placed u =
       let a = leb-true 2 (s .index) (both-first (leb 2 (s .index)) (leb (s .index) last) index-fits) in
       let b = leb-true (s .index) last (both-second (leb 2 (s .index)) (leb (s .index) last) index-fits) in
-      let n : s .index ≡ last → ⊥ = eqb-false (s .index) last u in
+      let n : s .index < last = before-last (s .plan .count) (s .index) u b in
       placed (at s (s .index + 1) 1 (s .finished))
       (both-true (leb 2 (s .index + 1)) (leb (s .index + 1) last) (le-leb 2 (s .index + 1) (omega arith)) (le-leb (s .index + 1) last (omega arith)))
-      (both-true (leb 1 1) (leb 1 (lastPhase (s .plan .mode))) refl (le-leb 1 (lastPhase (s .plan .mode)) (phase-one (s .plan .mode))))
-      (going (at s (s .index + 1) 1 (s .finished)) (unfinished s end-fits (both-off (eqb (s .index) last) (eqb (s .phase) (lastPhase (s .plan .mode))) u)))
+      (both-true (leb 1 1) (leb 1 (lastPhase (s .plan .mode) (s .plan .count) (s .index + 1))) refl (le-leb 1 _ (phase-one (s .plan .mode) (s .plan .count) (s .index + 1))))
+      (going (at s (s .index + 1) 1 (s .finished)) (unfinished s end-fits (both-off on-last (eqb (s .phase) (lastPhaseHere s)) u)))
 
   next-placed : (passed : Bool) → placedOf (nextOf s passed) ≡ true
   unfolding nextOf choose
   next-placed false = h
   next-placed true =
-      by-bool (ltb (s .phase) (lastPhase (s .plan .mode))) (λ t. rw t (phase-placed t))
-      (λ t. by-bool (eqb (s .index) last) (λ u. rw (t, u) (end-placed t u)) (λ u. rw (t, u) (index-placed u)))
+      by-bool (ltb (s .phase) (lastPhaseHere s)) (λ t. rw t (phase-placed t))
+      (λ t. by-bool on-last (λ u. rw (t, u) (end-placed t u)) (λ u. rw (t, u) (index-placed u)))
 
 goes-valid : {s t : State} → Goes s t → validOf s ≡ true → validOf t ≡ true
 unfolding validOf

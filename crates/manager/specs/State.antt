@@ -2,7 +2,7 @@
 -- Assumes nothing.
 use mathlib.Core.Bool.{Bool, true, false}
 use mathlib.Core.List.{[]}
-use Prim.Native.Nat.{ℕ, _-_, _≤_}
+use Prim.Native.Nat.{ℕ, _≤_}
 use lib.Dec.{eqb, leb}
 use Rattle.integers.specs.Choose.{choose}
 use Rattle.order.specs.Sweep.{both}
@@ -25,28 +25,34 @@ emptyState = record { plan = emptyPlan; index = 0; phase = 0; finished = false }
 abbrev pub startOf : Plan → State
 startOf p = record { plan = p; index = 2; phase = 1; finished = false }
 
--- the last index: "i = 2..N−1" for lines and fillets, "i = 2..N" for Dubins
-unfoldable pub lastIndex : Mode → ℕ → ℕ
-lastIndex Lines n = n - 1
-lastIndex Fillets n = n - 1
-lastIndex Dubins n = n
+-- the last index of n points, in every mode: since request 4 lines and fillets fly up to point N too, as Dubins plans do
+unfoldable pub lastIndex : ℕ → ℕ
+lastIndex n = n
 
--- the last phase: "lines have 1 only, fillets 1 line and 2 circle, Dubins 1 to 5"
-unfoldable pub lastPhase : Mode → ℕ
-lastPhase Lines = 1
-lastPhase Fillets = 2
-lastPhase Dubins = 5
+-- the leg to point i of n points is the last one
+unfoldable pub onLastLeg : ℕ → ℕ → Bool
+onLastLeg n i = eqb i (lastIndex n)
+
+-- the last phase at an index: "lines have 1 only, fillets 1 line and 2 circle, Dubins 1 to 5". At point N a fillet plan has no corner to round,
+-- so phase line is its last one there (request 4).
+unfoldable pub lastPhase : Mode → ℕ → ℕ → ℕ
+lastPhase Lines n i = 1
+lastPhase Fillets n i = choose (onLastLeg n i) 1 2
+lastPhase Dubins n i = 5
+
+abbrev pub lastPhaseHere : State → ℕ
+lastPhaseHere s = lastPhase (s .plan .mode) (s .plan .count) (s .index)
 
 -- at the last index and phase
 unfoldable pub atEnd : State → Bool
-atEnd s = both (eqb (s .index) (lastIndex (s .plan .mode) (s .plan .count))) (eqb (s .phase) (lastPhase (s .plan .mode)))
+atEnd s = both (onLastLeg (s .plan .count) (s .index)) (eqb (s .phase) (lastPhaseHere s))
 
 -- refusal 14: "its index or phase isn't one the mode allows"
 unfoldable pub indexFits : State → Bool
-indexFits s = both (leb 2 (s .index)) (leb (s .index) (lastIndex (s .plan .mode) (s .plan .count)))
+indexFits s = both (leb 2 (s .index)) (leb (s .index) (lastIndex (s .plan .count)))
 
 unfoldable pub phaseFits : State → Bool
-phaseFits s = both (leb 1 (s .phase)) (leb (s .phase) (lastPhase (s .plan .mode)))
+phaseFits s = both (leb 1 (s .phase)) (leb (s .phase) (lastPhaseHere s))
 
 -- "or it is finished before the last index and phase"
 unfoldable pub endFits : State → Bool
@@ -63,6 +69,6 @@ validOf s = both (standsOf (s .plan)) (placedOf s)
 pub record Valid (s : State) : Type 0 where
   pub stands : Stands (s .plan)
   pub least : 2 ≤ s .index
-  pub most : s .index ≤ lastIndex (s .plan .mode) (s .plan .count)
+  pub most : s .index ≤ lastIndex (s .plan .count)
   pub first : 1 ≤ s .phase
-  pub last : s .phase ≤ lastPhase (s .plan .mode)
+  pub last : s .phase ≤ lastPhaseHere s

@@ -1,4 +1,4 @@
--- Document 01, "One fix", for a state of any mode. Assumes nothing.
+-- Document 01, "One fix", with request 4, the last leg, for a state of any mode. Assumes nothing.
 use mathlib.Core.Bool.{Bool, true, false}
 use Prim.Native.Nat.{ℕ, _+_, _-_}
 use lib.Dec.{eqb, ltb}
@@ -14,7 +14,7 @@ use Rattle.dubins.specs.declared.Found.the-variants.{Shortest, Missing}
 use Rattle.dubins.specs.Choice.{shortestOf}
 use Rattle.guidance.specs.declared.Guidance.{Guidance}
 use Rattle.guidance.specs.declared.Command.the-variants.{Nothing}
-use Rattle.guidance.specs.Guide.{lineGuide, filletGuide, dubinsGuide}
+use Rattle.guidance.specs.Guide.{lineGuide, filletGuide, lastLegGuide, dubinsGuide}
 use Rattle.plan.specs.declared.Mode.{Mode}
 use Rattle.plan.specs.declared.Mode.the-variants.{Lines, Fillets, Dubins}
 use Rattle.plan.specs.declared.Plan.{Plan}
@@ -22,7 +22,7 @@ use Rattle.plan.specs.Places.{pointOf, courseOf}
 use Rattle.plan.specs.Rules.{endsAt}
 use Rattle.manager.specs.declared.State.{State}
 use Rattle.manager.specs.declared.Stepped.{Stepped}
-use Rattle.manager.specs.State.{lastIndex, lastPhase, validOf}
+use Rattle.manager.specs.State.{onLastLeg, lastPhaseHere, validOf}
 
 -- the leg that is flown at an index of a Dubins plan, "from point i−1 with course χs to point i with χe"; places are counted from 0
 abbrev pub endsOf : Plan → ℕ → Ends
@@ -33,19 +33,24 @@ unfoldable pub pathGuide : Ends → ℕ → Point → Found → Guidance
 pathGuide ends phase p (Shortest path) = dubinsGuide ends path phase p
 pathGuide ends phase p Missing = record { command = Nothing; heading = 0; passed = false }
 
--- "The command belongs to the index and phase before the fix": what each mode does at index i, with the points i−1, i and i+1
+-- "The command belongs to the index and phase before the fix": what each mode does at index i, with the points i−1, i and i+1. The last leg has
+-- no point behind it; lines and fillets have a rule of their own there (request 4), fillets in north and east.
 unfoldable pub guideOf : Mode → Plan → ℕ → ℕ → Point → Guidance
-guideOf Lines plan i phase p = lineGuide (pointOf plan (i - 2)) (pointOf plan (i - 1)) (pointOf plan i) p
-guideOf Fillets plan i phase p = filletGuide (pointOf plan (i - 2)) (pointOf plan (i - 1)) (pointOf plan i) (plan .radius) phase p
+guideOf Lines plan i phase p =
+    choose (onLastLeg (plan .count) i) (lastLegGuide false (pointOf plan (i - 2)) (pointOf plan (i - 1)) p)
+    (lineGuide (pointOf plan (i - 2)) (pointOf plan (i - 1)) (pointOf plan i) p)
+guideOf Fillets plan i phase p =
+    choose (onLastLeg (plan .count) i) (lastLegGuide true (pointOf plan (i - 2)) (pointOf plan (i - 1)) p)
+    (filletGuide (pointOf plan (i - 2)) (pointOf plan (i - 1)) (pointOf plan i) (plan .radius) phase p)
 guideOf Dubins plan i phase p = pathGuide (endsOf plan i) phase p (shortestOf (endsOf plan i))
 
 -- "at most one phase change follows": the next phase; after the last one the next i and phase 1, or at the last i it stays "and finished is set"
 unfoldable pub nextOf : State → Bool → State
 nextOf s passed =
     choose passed
-    (choose (ltb (s .phase) (lastPhase (s .plan .mode)))
+    (choose (ltb (s .phase) (lastPhaseHere s))
     (record { plan = s .plan; index = s .index; phase = s .phase + 1; finished = s .finished })
-    (choose (eqb (s .index) (lastIndex (s .plan .mode) (s .plan .count)))
+    (choose (onLastLeg (s .plan .count) (s .index))
     (record { plan = s .plan; index = s .index; phase = s .phase; finished = true })
     (record { plan = s .plan; index = s .index + 1; phase = 1; finished = s .finished })))
     s

@@ -1,4 +1,4 @@
-// The state of a flight, and one fix at a time (document 01, "One fix" and refusals 13 to 15).
+// The state of a flight, and one fix at a time (document 01, "One fix" and refusals 13 to 15; request 4, the last leg).
 use dubins::Ends;
 use dubins::Found;
 use guidance::Command;
@@ -10,12 +10,13 @@ use units::Fix;
 use units::Position;
 ghost use mathlib.Core.Path.{_≡_};
 ghost use mathlib.Core.Bool.{true};
-ghost use Prim.Native.Nat.{_-_, _<_};
+ghost use Prim.Native.Nat.{_<_};
 ghost use Rattle.plane.specs.Area.{InArea};
 ghost use Rattle.dubins.specs.Limits.{IsEnds};
 ghost use Rattle.dubins.specs.Choice.{shortestOf};
-ghost use Rattle.manager.specs.State.{emptyState, startOf, lastIndex, lastPhase, atEnd, indexFits, phaseFits, endFits, placedOf, validOf, Valid};
+ghost use Rattle.manager.specs.State.{emptyState, startOf, lastIndex, onLastLeg, lastPhase, atEnd, indexFits, phaseFits, endFits, placedOf, validOf, Valid};
 ghost use Rattle.manager.specs.Step.{pathGuide, guideOf, nextOf, refuseOf, movedOf, stepOf};
+ghost use Rattle.manager.specs.Finish.{Finishes};
 
 // A plan and how far it is flown: the index of the point that is flown to, from 1, the phase there, and whether the end was reached.
 pub struct State {
@@ -87,30 +88,27 @@ pub fn start(plan: Plan) -> State
     }
 }
 
-// One less, and 0 of 0.
-fn before(n: usize) -> usize
-    ensures { λ r. ⌜ r ≡ n - 1 ⌝ }
+// The last index of count points, in every mode.
+fn last_index(count: usize) -> usize
+    ensures { λ r. ⌜ r ≡ lastIndex count ⌝ }
 {
-    if n == 0 { 0 } else { n - 1 }
+    count
 }
 
-// The last index of a mode, with count points.
-fn last_index(mode: Mode, count: usize) -> usize
-    ensures { λ r. ⌜ r ≡ lastIndex mode count ⌝ }
+// Whether the leg to the point of an index is the last one.
+fn on_last_leg(count: usize, index: usize) -> bool
+    ensures { λ r. ⌜ r ≡ onLastLeg count index ⌝ }
 {
-    match mode {
-        Mode::Lines => before(count),
-        Mode::Fillets => before(count),
-        Mode::Dubins => count,
-    }
+    index == last_index(count)
 }
 
-fn last_phase(mode: Mode) -> u8
-    ensures { λ r. ⌜ r ≡ lastPhase mode ⌝ }
+// The last phase at an index. There is no corner to round at the end of the last leg.
+fn last_phase(mode: Mode, count: usize, index: usize) -> u8
+    ensures { λ r. ⌜ r ≡ lastPhase mode count index ⌝ }
 {
     match mode {
         Mode::Lines => 1,
-        Mode::Fillets => 2,
+        Mode::Fillets => if on_last_leg(count, index) { 1 } else { 2 },
         Mode::Dubins => 5,
     }
 }
@@ -121,26 +119,25 @@ fn at_end(s: State) -> bool
 {
     let p = s.plan;
     let mode = p.mode;
-    if s.index == last_index(mode, p.count) {
-        s.phase == last_phase(mode)
+    if on_last_leg(p.count, s.index) {
+        s.phase == last_phase(mode, p.count, s.index)
     } else {
         false
     }
 }
 
-// Whether the index is one that the mode allows.
+// Whether the index is one that a plan has.
 fn index_fits(s: State) -> bool
     ensures { λ r. ⌜ r ≡ indexFits s ⌝ }
 {
     let p = s.plan;
-    let mode = p.mode;
     if s.index < 2 {
         return false;
     }
-    s.index <= last_index(mode, p.count)
+    s.index <= last_index(p.count)
 }
 
-// Whether the phase is one that the mode allows.
+// Whether the phase is one that the mode allows at the index.
 fn phase_fits(s: State) -> bool
     ensures { λ r. ⌜ r ≡ phaseFits s ⌝ }
 {
@@ -149,7 +146,7 @@ fn phase_fits(s: State) -> bool
     if s.phase < 1 {
         return false;
     }
-    s.phase <= last_phase(mode)
+    s.phase <= last_phase(mode, p.count, s.index)
 }
 
 // Whether a state that is finished is at the last index and phase.
@@ -186,7 +183,7 @@ pub fn valid(s: State) -> bool
 }
 
 // The guidance on a Dubins leg. The path is worked out afresh.
-fn leg_guide(ends: Ends, phase: u8, at: Point) -> Guidance
+fn path_guide(ends: Ends, phase: u8, at: Point) -> Guidance
     requires { ⌜ IsEnds ends × InArea at ⌝ }
     ensures { λ r. ⌜ (r ≡ pathGuide ends phase at (shortestOf ends)) × (r .heading < 4096) ⌝ }
 {
@@ -208,14 +205,21 @@ fn guide(s: State, at: Point) -> Guidance
     let p = s.plan;
     let i = s.index;
     let mode = p.mode;
+    let last = on_last_leg(p.count, i);
     let a = p.points[i - 2];
     let b = p.points[i - 1];
     match mode {
         Mode::Lines => {
+            if last {
+                return guidance::last_leg_guide(guidance::IN_SPACE, a, b, at);
+            }
             let c = p.points[i];
             guidance::line_guide(a, b, c, at)
         }
         Mode::Fillets => {
+            if last {
+                return guidance::last_leg_guide(guidance::LEVEL, a, b, at);
+            }
             let c = p.points[i];
             guidance::fillet_guide(a, b, c, p.radius as u64, s.phase, at)
         }
@@ -227,7 +231,7 @@ fn guide(s: State, at: Point) -> Guidance
                 arrive: p.courses[i - 1] as usize,
                 radius: p.radius as u64,
             };
-            leg_guide(ends, s.phase, at)
+            path_guide(ends, s.phase, at)
         }
     }
 }
@@ -241,11 +245,11 @@ fn next(s: State, passed: bool) -> State
     let mode = p.mode;
     let mut t = s;
     if passed {
-        if s.phase < last_phase(mode) {
+        if s.phase < last_phase(mode, p.count, s.index) {
             t.phase = s.phase + 1;
             return t;
         }
-        if s.index == last_index(mode, p.count) {
+        if on_last_leg(p.count, s.index) {
             t.finished = true;
             return t;
         }
@@ -295,7 +299,7 @@ fn moved(s: State, at: Point) -> Stepped
 impl State {
     // One fix: the command of the index and phase before it, and the state after it.
     pub fn step(self, serial: u32, fix: Fix) -> Stepped
-        ensures { λ r. ⌜ r ≡ stepOf self serial fix ⌝ }
+        ensures { λ r. ⌜ (r ≡ stepOf self serial fix) × Finishes self fix r ⌝ }
     {
         if valid(self) {
             let p = self.plan;

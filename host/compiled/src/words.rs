@@ -5,6 +5,7 @@ use reference::{Answer, Command, Mode, State};
 
 pub const STATE_WORDS: usize = 263;
 pub const MODE: usize = 1;
+pub const COUNT: usize = 3;
 pub const INDEX: usize = 4;
 pub const PHASE: usize = 5;
 pub const FINISHED: usize = 6;

@@ -24,6 +24,9 @@ pub struct Tally {
     /// Sound fixes by mode and phase, then those that changed the place.
     pub phases: [[u64; 6]; 3],
     pub steps: u64,
+    /// Sound fixes at the last index by mode, and those that finished a flight.
+    pub last_legs: [u64; 3],
+    pub ends: [u64; 3],
     pub notes: Notes,
 }
 
@@ -110,8 +113,11 @@ impl Tally {
         self.fixes += 1;
         self.fix_refusals[refusal as usize] += 1;
         if refusal == 0 {
-            self.phases[before[words::MODE] as usize][before[words::PHASE] as usize] += 1;
+            let mode = before[words::MODE] as usize;
+            self.phases[mode][before[words::PHASE] as usize] += 1;
             self.steps += u64::from(before != after);
+            self.last_legs[mode] += u64::from(before[words::INDEX] == before[words::COUNT]);
+            self.ends[mode] += u64::from(before[words::FINISHED] != after[words::FINISHED]);
         }
     }
 

@@ -11,10 +11,18 @@ mod positions;
 mod runs;
 
 use compare::Tally;
+use std::fmt::{Debug, Display};
 use std::process::ExitCode;
 
-/// From this many loads on, every refusal that a file can have must have come.
+/// From this many loads, fixes or writes on, all that must come of them must have come.
 const FULL_RUN: u64 = 100_000;
+
+/// The refusals that must come. 17 is none of them: with ends three radii apart every Dubins leg has a case.
+const OF_LOADS: [usize; 12] = [1, 2, 3, 4, 5, 6, 7, 8, 9, 10, 11, 12];
+const OF_FIXES: [usize; 3] = [13, 14, 15];
+const OF_WRITES: [usize; 4] = [3, 7, 14, 16];
+
+const MODES: [&str; 3] = ["lines", "fillets", "dubins"];
 
 fn run(part: &str, n: u64, seed: u64, tally: &mut Tally) -> bool {
     match part {
@@ -31,27 +39,53 @@ fn run(part: &str, n: u64, seed: u64, tally: &mut Tally) -> bool {
     true
 }
 
-fn counts(name: &str, refusals: &[u64]) -> String {
-    let each: Vec<String> = refusals.iter().enumerate().map(|(number, times)| format!("{number}:{times}")).collect();
+fn counts<T: Display>(name: &str, of: impl IntoIterator<Item = T>, times: &[u64]) -> String {
+    let each: Vec<String> = of.into_iter().zip(times).map(|(which, times)| format!("{which}:{times}")).collect();
     format!("{name} {}", each.join(" "))
 }
 
-/// Prints what came; false where a refusal of loads is missing in a full run.
-fn report(tally: &Tally) -> bool {
-    println!("{}", counts("load refusals", &tally.load_refusals));
-    println!("{}", counts("fix refusals", &tally.fix_refusals));
-    println!("{}", counts("write refusals", &tally.write_refusals));
-    for (mode, phases) in ["lines", "fillets", "dubins"].iter().zip(&tally.phases) {
-        println!("{}", counts(&format!("{mode} phases"), phases));
+fn print_counts(tally: &Tally) {
+    println!("{}", counts("load refusals", 0.., &tally.load_refusals));
+    println!("{}", counts("fix refusals", 0.., &tally.fix_refusals));
+    println!("{}", counts("write refusals", 0.., &tally.write_refusals));
+    for (mode, phases) in MODES.iter().zip(&tally.phases) {
+        println!("{}", counts(&format!("{mode} phases"), 0.., phases));
     }
     println!("steps {}", tally.steps);
+    println!("{}", counts("last leg", MODES, &tally.last_legs));
+    println!("{}", counts("ends", MODES, &tally.ends));
     println!("{}", tally.notes.counts());
-    let missing: Vec<usize> = (1..=12).filter(|number| tally.load_refusals[*number] == 0).collect();
-    let whole = tally.loads < FULL_RUN || missing.is_empty();
+}
+
+/// False where something is missing in a full run, which is said.
+fn all_came<T: Debug>(calls: u64, what: &str, missing: Vec<T>) -> bool {
+    let whole = calls < FULL_RUN || missing.is_empty();
     if !whole {
-        println!("refusals that never came in loads: {missing:?}");
+        println!("{what}: {missing:?}");
     }
     whole
+}
+
+fn missing_refusals(wanted: &[usize], came: &[u64]) -> Vec<usize> {
+    wanted.iter().copied().filter(|number| came[*number] == 0).collect()
+}
+
+fn missing_modes(came: &[u64; 3]) -> Vec<&'static str> {
+    MODES.into_iter().zip(came).filter(|(_, times)| **times == 0).map(|(mode, _)| mode).collect()
+}
+
+/// Prints what came; false where something is missing in a full run.
+fn report(tally: &Tally) -> bool {
+    print_counts(tally);
+    let Tally { loads, fixes, writes, load_refusals, fix_refusals, write_refusals, last_legs, ends, .. } = tally;
+    let each = [
+        all_came(*loads, "refusals that never came in loads", missing_refusals(&OF_LOADS, load_refusals)),
+        all_came(*fixes, "refusals that never came in fixes", missing_refusals(&OF_FIXES, fix_refusals)),
+        all_came(*writes, "refusals that never came in writes", missing_refusals(&OF_WRITES, write_refusals)),
+        all_came(*fixes, "modes whose last leg never came in fixes", missing_modes(last_legs)),
+        all_came(*fixes, "modes that no fix ended", missing_modes(ends)),
+    ];
+    each.iter().all(|whole| *whole)
 }
 
 fn main() -> ExitCode {

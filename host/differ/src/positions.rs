@@ -17,13 +17,28 @@ pub fn random_fix(c: &mut Chance, state: &State) -> [f32; 3] {
         0 => [random_float(c), random_float(c), random_float(c)],
         1 => anywhere(c),
         2 | 3 => about_the_plan(c, state),
-        4 if state.mode != Mode::Lines => about_the_circle(c, state),
+        4 if has_circle(state) => about_the_circle(c, state),
+        // Past the point before the last and perhaps past the last: only the first of them may count.
+        5 if ends_in_a_line(state) && state.index + 1 == state.count => about_the_last_point(c, state),
         _ => about_the_boundary(c, state),
     };
     if c.one_in(24) {
         fix[c.below(3)] = f32::from_bits(c.pick(&ODD));
     }
     fix
+}
+
+/// Whether the plan's end is the plane through its last point, across the last leg.
+fn ends_in_a_line(state: &State) -> bool {
+    state.mode != Mode::Dubins
+}
+
+fn has_circle(state: &State) -> bool {
+    match state.mode {
+        Mode::Lines => false,
+        Mode::Fillets => !state.on_last_leg(),
+        Mode::Dubins => true,
+    }
 }
 
 /// Any bits, or such as have a size that fits.
@@ -74,6 +89,9 @@ fn about_the_circle(c: &mut Chance, state: &State) -> [f32; 3] {
 
 fn about_the_boundary(c: &mut Chance, state: &State) -> [f32; 3] {
     let i = state.index as usize;
+    if ends_in_a_line(state) && state.on_last_leg() {
+        return about_the_last_point(c, state);
+    }
     if state.mode == Mode::Lines {
         return about_a_line_corner(c, state, i);
     }
@@ -89,7 +107,7 @@ fn about_the_boundary(c: &mut Chance, state: &State) -> [f32; 3] {
     ]
 }
 
-/// Where the next change of phase waits, and the direction in which it is passed.
+/// Where the next change of phase waits, and the direction in which it is passed; not for the last leg of a fillet plan.
 fn level_boundary(state: &State, i: usize) -> (Level, Level) {
     if state.mode == Mode::Fillets {
         let fillet = fillets::fillet_at(state, i);
@@ -127,6 +145,37 @@ fn about_a_line_corner(c: &mut Chance, state: &State, i: usize) -> [f32; 3] {
     [0, 1, 2].map(|k| to_metres(c, spread, point[k] + d[k]))
 }
 
+/// On the plane across the last leg through the last point, on the upright one that north and east decide, and before and behind them.
+/// Where the leg climbs or sinks, the two planes part, and a lines plan and a fillet plan end at different places.
+fn about_the_last_point(c: &mut Chance, state: &State) -> [f32; 3] {
+    let i = state.count as usize;
+    let (point, leg) = (state.point(i), state.leg(i));
+    let d = if c.one_in(2) { balanced(c, leg) } else { beside(c, leg) };
+    let way = if c.one_in(2) { leg } else { [leg[0], leg[1], 0] };
+    let push = ahead(way, c.pick(&[0, 0, 0, 1, -1, 1, -1, 300, -300]));
+    let spread = c.pick(&[0, 0, 0, 1]);
+    [0, 1, 2].map(|k| to_metres(c, spread, point[k] + d[k] + push[k]))
+}
+
+/// Level across the leg, and so on both planes; or above or below there, and so on the upright one.
+fn beside(c: &mut Chance, leg: [i64; 3]) -> [i64; 3] {
+    let (n, e) = along(primitive_level((-leg[1], leg[0])), c.pick(&[0, 0, 1, -1, 2, -3]));
+    [n, e, c.pick(&[0, 0, 1, -1, 40, -40, 500, -500])]
+}
+
+/// On the plane across the leg, exactly or nearly, where the way ahead and the way down balance.
+fn balanced(c: &mut Chance, leg: [i64; 3]) -> [i64; 3] {
+    let times = c.pick(&[1, -1, 2, -3]);
+    if leg[2] == 0 || c.one_in(2) {
+        let axis = c.below(2);
+        let mut d = [0, 0, leg[axis]];
+        d[axis] = -leg[2];
+        return primitive(d).map(|part| times * part);
+    }
+    let (n, e) = forward((leg[0], leg[1]), 10 * times);
+    [n, e, -(n * leg[0] + e * leg[1]) / leg[2]]
+}
+
 fn common(a: i64, b: i64) -> i64 {
     if b == 0 {
         a.abs()
@@ -156,6 +205,10 @@ fn along(v: Level, times: i64) -> Level {
 }
 
 fn forward(q: Level, distance: i64) -> Level {
-    let [n, e, _] = unit([q.0, q.1, 0]);
-    ((n * distance as f64).round() as i64, (e * distance as f64).round() as i64)
+    let [n, e, _] = ahead([q.0, q.1, 0], distance);
+    (n, e)
+}
+
+fn ahead(v: [i64; 3], distance: i64) -> [i64; 3] {
+    unit(v).map(|part| (part * distance as f64).round() as i64)
 }

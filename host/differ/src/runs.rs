@@ -4,7 +4,7 @@ use crate::chance::Chance;
 use crate::compare::{Case, Tally};
 use crate::files::{loading_file, random_file};
 use crate::positions::random_fix;
-use compiled::words::{self, Words, COURSES, FINISHED, INDEX, PHASE, STATE_WORDS};
+use compiled::words::{self, Words, COUNT, COURSES, FINISHED, INDEX, PHASE, STATE_WORDS};
 use reference::{file, State};
 
 const ODD_VERSIONS: [u32; 16] = [
@@ -95,12 +95,12 @@ fn random_word(c: &mut Chance, was: u32) -> u32 {
     }
 }
 
-/// An index, phase and finished that the mode allows.
+/// An index, phase and finished that the mode allows, every other time on one of the last two legs.
 fn random_progress(c: &mut Chance, state: &mut State) {
-    let (last_index, last_phase) = state.last_place();
-    state.index = c.between(2, i64::from(last_index)) as u32;
-    state.phase = c.between(1, i64::from(last_phase)) as u32;
-    state.finished = (state.index, state.phase) == (last_index, last_phase) && c.one_in(2);
+    let first = if c.one_in(2) { state.count - 1 } else { 2 };
+    state.index = c.between(i64::from(first), i64::from(state.count)) as u32;
+    state.phase = c.between(1, i64::from(state.last_phase())) as u32;
+    state.finished = state.at_last_place() && c.one_in(2);
 }
 
 fn random_room(c: &mut Chance, length: usize) -> usize {
@@ -152,8 +152,13 @@ pub fn states(tally: &mut Tally, n: u64, seed: u64) {
     }
 }
 
+/// Any progress, or one about the end that a mode allows and another may not.
 fn break_progress(c: &mut Chance, words: &mut Words) {
-    words[INDEX] = c.between(0, i64::from(words[3]) + 1) as u32;
-    words[PHASE] = c.between(0, 6) as u32;
-    words[FINISHED] = c.between(0, 2) as u32;
+    let count = i64::from(words[COUNT]);
+    let (index, phase, finished) = if c.one_in(2) {
+        (c.between(count - 1, count), c.pick(&[1, 2, 4, 5]), c.between(0, 1))
+    } else {
+        (c.between(0, count + 1), c.between(0, 6), c.between(0, 2))
+    };
+    (words[INDEX], words[PHASE], words[FINISHED]) = (index as u32, phase as u32, finished as u32);
 }

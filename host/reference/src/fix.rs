@@ -60,10 +60,9 @@ impl State {
 
     /// The next phase, or the first phase of the next index; at the last place the flight is finished and stays there.
     fn step(&mut self) {
-        let (last_index, last_phase) = self.last_place();
-        if self.phase < last_phase {
+        if self.phase < self.last_phase() {
             self.phase += 1;
-        } else if self.index < last_index {
+        } else if !self.on_last_leg() {
             self.index += 1;
             self.phase = 1;
         } else {
@@ -75,7 +74,11 @@ impl State {
         let i = self.index as usize;
         let point = self.point(i);
         let d = [p[0] - point[0], p[1] - point[1], p[2] - point[2]];
-        let passed = lines::half_plane_met(d, self.leg(i), self.leg(i + 1));
+        let passed = if self.on_last_leg() {
+            lines::dot3(d, self.leg(i)) >= 0
+        } else {
+            lines::half_plane_met(d, self.leg(i), self.leg(i + 1))
+        };
         let (command, heading) = self.leg_line((p[0], p[1]));
         (command, heading, passed)
     }
@@ -97,13 +100,23 @@ impl State {
 
     fn fillets_fix(&self, p: Level) -> (Command, u32, bool) {
         let i = self.index as usize;
-        let fillet = fillets::fillet_at(self, i);
         if self.phase == 1 {
             let (command, heading) = self.leg_line(p);
-            (command, heading, dot(less(p, fillet.z1), self.level_leg(i)) >= 0)
+            (command, heading, dot(less(p, self.line_end()), self.level_leg(i)) >= 0)
         } else {
+            let fillet = fillets::fillet_at(self, i);
             let (command, heading) = self.circle(fillet.centre, i, fillet.sense, p);
             (command, heading, dot(less(p, fillet.z2), self.level_leg(i + 1)) >= 0)
+        }
+    }
+
+    /// Where the line of a fillet plan ends: where the corner's circle begins, or at the last point.
+    fn line_end(&self) -> Level {
+        let i = self.index as usize;
+        if self.on_last_leg() {
+            self.level_point(i)
+        } else {
+            fillets::fillet_at(self, i).z1
         }
     }
 
@@ -183,8 +196,138 @@ mod tests {
         state.points[2] = [1000, 2000, -10];
         let answer = state.fix(7, [100.0, 0.0, -1.0]);
         let line = Command::Line { start: [0.0; 3], direction: [100.0, 0.0, -1.0] };
-        assert_eq!((answer.command, answer.heading, answer.finished), (line, 0, true));
-        assert_eq!((state.index, state.phase, state.finished), (2, 1, true));
+        assert_eq!((answer.command, answer.heading, answer.finished), (line, 0, false));
+        assert_eq!((state.index, state.phase, state.finished), (3, 1, false));
+    }
+
+    /// North, then a right angle to the east; the last leg climbs three decimetres for every four ahead.
+    fn corner(mode: Mode, index: u32, phase: u32) -> State {
+        let radius = match mode {
+            Mode::Lines => 0,
+            Mode::Fillets => 200,
+            Mode::Dubins => 100,
+        };
+        let mut state = State { serial: 7, mode, radius, count: 3, index, phase, ..State::EMPTY };
+        state.points[1] = [1000, 0, 0];
+        state.points[2] = [1000, 400, -300];
+        state
+    }
+
+    // At 500 to the right of a leg the heading is 384 less than along it, as in the document's example.
+    const FIRST_LEG: Command = Command::Line { start: [0.0; 3], direction: [100.0, 0.0, 0.0] };
+    const LAST_LEG: Command = Command::Line { start: [100.0, 0.0, 0.0], direction: [0.0, 40.0, -30.0] };
+
+    /// What a fix at a position in decimetres answers.
+    fn fixed(state: &mut State, p: [i64; 3]) -> (Command, u32, (u32, u32, bool)) {
+        let answer = state.fix(7, metres(p));
+        assert_eq!(answer.refusal, None);
+        assert_eq!((answer.index, answer.phase, answer.finished), (state.index, state.phase, state.finished));
+        (answer.command, answer.heading, (answer.index, answer.phase, answer.finished))
+    }
+
+    #[test]
+    fn passing_the_last_corner_beyond_the_last_point_does_not_end_a_lines_plan() {
+        let mut state = corner(Mode::Lines, 2, 1);
+        let beyond = [1000, 500, -375];
+        assert_eq!(fixed(&mut state, beyond), (FIRST_LEG, 3712, (3, 1, false)));
+        assert_eq!(fixed(&mut state, beyond), (LAST_LEG, 1024, (3, 1, true)));
+    }
+
+    #[test]
+    fn passing_the_last_corner_beyond_the_last_point_does_not_end_a_fillet_plan() {
+        let mut state = corner(Mode::Fillets, 2, 1);
+        assert_eq!(fixed(&mut state, [1000, 500, 0]), (FIRST_LEG, 3712, (2, 2, false)));
+        // East of the centre, outside the circle by a quarter of its radius.
+        let beyond = [800, 450, 0];
+        let circle = Command::Circle { centre: [80.0, 20.0, 0.0], radius: 20.0, sense: 1 };
+        assert_eq!(fixed(&mut state, beyond), (circle, 2560, (3, 1, false)));
+        assert_eq!(fixed(&mut state, [1000, 450, 0]), (LAST_LEG, 1024, (3, 1, true)));
+    }
+
+    #[test]
+    fn the_last_leg_is_flown_up_to_the_last_point() {
+        for mode in [Mode::Lines, Mode::Fillets] {
+            let mut state = corner(mode, 3, 1);
+            assert_eq!(fixed(&mut state, [1000, 399, -300]), (LAST_LEG, 1024, (3, 1, false)));
+            assert_eq!(fixed(&mut state, [1000, 400, -300]), (LAST_LEG, 1024, (3, 1, true)));
+        }
+    }
+
+    #[test]
+    fn the_end_is_abreast_of_the_last_point_however_far_to_the_side() {
+        for mode in [Mode::Lines, Mode::Fillets] {
+            let mut state = corner(mode, 3, 1);
+            assert_eq!(fixed(&mut state, [500, 399, -300]), (LAST_LEG, 640, (3, 1, false)));
+            assert_eq!(fixed(&mut state, [500, 400, -300]), (LAST_LEG, 640, (3, 1, true)));
+        }
+    }
+
+    #[test]
+    fn a_finished_flight_keeps_the_last_leg_and_stays_finished() {
+        for mode in [Mode::Lines, Mode::Fillets] {
+            let mut state = State { finished: true, ..corner(mode, 3, 1) };
+            assert_eq!(fixed(&mut state, [500, 0, 0]), (LAST_LEG, 640, (3, 1, true)));
+        }
+    }
+
+    #[test]
+    fn height_counts_at_the_end_of_a_lines_plan_and_not_of_a_fillet_plan() {
+        // At the last point but one lower: short of it along the climbing leg.
+        let below = [1000, 400, -299];
+        // Three behind it and four above it: exactly abreast of it along the leg.
+        let above = [1000, 397, -304];
+        for (mode, p, ends) in [
+            (Mode::Lines, below, false),
+            (Mode::Lines, above, true),
+            (Mode::Fillets, below, true),
+            (Mode::Fillets, above, false),
+        ] {
+            assert_eq!(fixed(&mut corner(mode, 3, 1), p), (LAST_LEG, 1024, (3, 1, ends)));
+        }
+    }
+
+    #[test]
+    fn the_longest_plan_ends_at_its_last_place() {
+        for (mode, radius) in [(Mode::Lines, 0), (Mode::Fillets, 50)] {
+            let mut state = State { serial: 7, mode, radius, count: 64, index: 64, phase: 1, ..State::EMPTY };
+            for (i, point) in state.points.iter_mut().enumerate() {
+                *point = [100 * i as i32, 0, 0];
+            }
+            let line = Command::Line { start: [620.0, 0.0, 0.0], direction: [10.0, 0.0, 0.0] };
+            assert_eq!(fixed(&mut state, [6299, 0, 0]), (line, 0, (64, 1, false)));
+            assert_eq!(fixed(&mut state, [6300, 0, 0]), (line, 0, (64, 1, true)));
+        }
+    }
+
+    /// The places of a plan of three points that a mode allows: index, phase, finished.
+    fn allowed_places(mode: Mode) -> Vec<(u32, u32, bool)> {
+        match mode {
+            Mode::Lines => vec![(2, 1, false), (3, 1, false), (3, 1, true)],
+            Mode::Fillets => vec![(2, 1, false), (2, 2, false), (3, 1, false), (3, 1, true)],
+            Mode::Dubins => {
+                let unfinished = [2, 3].into_iter().flat_map(|index| (1..=5).map(move |phase| (index, phase, false)));
+                unfinished.chain([(3, 5, true)]).collect()
+            }
+        }
+    }
+
+    #[test]
+    fn a_fix_at_a_place_that_the_mode_lacks_is_refused() {
+        for mode in [Mode::Lines, Mode::Fillets, Mode::Dubins] {
+            let allowed = allowed_places(mode);
+            for place in (0..6).flat_map(|index| (0..8).flat_map(move |phase| [(index, phase, false), (index, phase, true)])) {
+                let given = State { finished: place.2, ..corner(mode, place.0, place.1) };
+                let mut state = given;
+                let refusal = (!allowed.contains(&place)).then_some(Refusal::plain(14));
+                let answer = state.fix(7, [0.0; 3]);
+                assert_eq!(answer.refusal, refusal, "{mode:?} {place:?}");
+                if refusal.is_some() {
+                    assert_eq!((answer.command, answer.heading), (Command::None, 0));
+                    assert_eq!((answer.index, answer.phase, answer.finished), place);
+                    assert_eq!(state, given);
+                }
+            }
+        }
     }
 
     #[test]

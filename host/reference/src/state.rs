@@ -63,13 +63,24 @@ impl State {
         i64::from(self.courses[i - 1])
     }
 
-    /// The last index and phase that the mode allows.
-    pub fn last_place(&self) -> (u32, u32) {
+    pub fn on_last_leg(&self) -> bool {
+        self.index == self.count
+    }
+
+    /// The last phase that the mode allows at the index.
+    pub fn last_phase(&self) -> u32 {
         match self.mode {
-            Mode::Lines => (self.count - 1, 1),
-            Mode::Fillets => (self.count - 1, 2),
-            Mode::Dubins => (self.count, 5),
+            Mode::Lines => 1,
+            // The last point is no corner, so it has no circle.
+            Mode::Fillets if self.on_last_leg() => 1,
+            Mode::Fillets => 2,
+            Mode::Dubins => 5,
         }
+    }
+
+    /// The one place where a flight can be finished.
+    pub fn at_last_place(&self) -> bool {
+        self.on_last_leg() && self.phase == self.last_phase()
     }
 
     /// False exactly where refusal 14 is given.
@@ -104,8 +115,7 @@ impl State {
     }
 
     fn progress_is_allowed(&self) -> bool {
-        let (last_index, last_phase) = self.last_place();
-        let allowed = (2..=last_index).contains(&self.index) && (1..=last_phase).contains(&self.phase);
-        allowed && (!self.finished || (self.index, self.phase) == (last_index, last_phase))
+        let allowed = (2..=self.count).contains(&self.index) && (1..=self.last_phase()).contains(&self.phase);
+        allowed && (!self.finished || self.at_last_place())
     }
 }

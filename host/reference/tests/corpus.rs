@@ -1,7 +1,18 @@
 //! The expected answers of a corpus folder, named by the environment variable CORPUS; skipped where that is unset.
+//!
+//! Its folder requests/04 decides the last leg of lines and fillets, and the folder itself all else.
 
 use reference::{load, note, write, Answer, Command, Mode, State};
+use std::collections::BTreeMap;
 use std::path::{Path, PathBuf};
+
+/// The cells of a row by the names of their columns.
+type Row = BTreeMap<String, String>;
+
+/// The columns of a fix's answer.
+const ANSWER: [&str; 14] = [
+    "refusal", "place", "kind", "c1", "c2", "c3", "c4", "c5", "c6", "sense", "heading", "index", "phase", "finished",
+];
 
 fn corpus() -> Option<PathBuf> {
     let folder = std::env::var_os("CORPUS").map(PathBuf::from);
@@ -11,9 +22,18 @@ fn corpus() -> Option<PathBuf> {
     folder
 }
 
-fn rows(folder: &Path, name: &str) -> Vec<Vec<String>> {
+fn last_leg_corpus() -> Option<PathBuf> {
+    corpus().map(|folder| folder.join("requests/04"))
+}
+
+/// The rows of a table, some at least.
+fn rows(folder: &Path, name: &str) -> Vec<Row> {
     let text = std::fs::read_to_string(folder.join(name)).unwrap();
-    text.lines().skip(1).map(|line| line.split('\t').map(String::from).collect()).collect()
+    let mut lines = text.lines().map(|line| line.split('\t').map(String::from));
+    let names: Vec<String> = lines.next().unwrap().collect();
+    let rows: Vec<Row> = lines.map(|cells| names.iter().cloned().zip(cells).collect()).collect();
+    assert!(!rows.is_empty(), "{name} has rows");
+    rows
 }
 
 fn plan(folder: &Path, name: &str) -> Vec<u8> {
@@ -28,7 +48,46 @@ fn whole(text: &str) -> u32 {
     text.parse().unwrap()
 }
 
-/// An answer in the columns of the corpus, from refusal to finished.
+#[test]
+fn loads() {
+    let Some(folder) = corpus() else { return };
+    for row in rows(&folder, "loads.tsv") {
+        let answer = load(&plan(&folder, &row["file"]), whole(&row["reader"]));
+        let got = answer.map_or_else(|r| (r.number, r.place), |_| (0, 0));
+        assert_eq!(got, (whole(&row["refusal"]), whole(&row["place"])), "{row:?}");
+    }
+}
+
+#[test]
+fn notes() {
+    let Some(folder) = corpus() else { return };
+    for row in rows(&folder, "notes.tsv") {
+        let part = note(&plan(&folder, &row["file"]), row["number"].parse().unwrap());
+        assert_eq!((part.start as u32, part.len() as u32), (whole(&row["offset"]), whole(&row["length"])), "{row:?}");
+    }
+}
+
+/// A write's refusal, place and file, which is empty where it is refused.
+fn written(state: &State, version: &str, room: &str) -> (u32, u32, Vec<u8>) {
+    match write(state, whole(version), room.parse().unwrap()) {
+        Ok(file) => (0, 0, file),
+        Err(r) => (r.number, r.place, Vec::new()),
+    }
+}
+
+#[test]
+fn writes() {
+    let Some(folder) = corpus() else { return };
+    for row in rows(&folder, "writes.tsv") {
+        let state = load(&plan(&folder, &row["file"]), 3).unwrap_or(State::EMPTY);
+        let (number, place, file) = written(&state, &row["version"], &row["buffer"]);
+        let hex: String = if file.is_empty() { "-".into() } else { file.iter().map(|b| format!("{b:02X}")).collect() };
+        let got = [number.to_string(), place.to_string(), file.len().to_string(), hex];
+        assert_eq!(got, ["refusal", "place", "length", "hex"].map(|name| row[name].clone()), "{row:?}");
+    }
+}
+
+/// An answer in the columns of the corpus.
 fn columns(answer: &Answer) -> Vec<String> {
     let (number, place) = answer.refusal.map_or((0, 0), |r| (r.number, r.place));
     let (kind, numbers, sense) = match answer.command {
@@ -43,51 +102,42 @@ fn columns(answer: &Answer) -> Vec<String> {
     all
 }
 
-#[test]
-fn loads() {
-    let Some(folder) = corpus() else { return };
-    for row in rows(&folder, "loads.tsv") {
-        let answer = load(&plan(&folder, &row[0]), whole(&row[1]));
-        let got = answer.map_or_else(|r| (r.number, r.place), |_| (0, 0));
-        assert_eq!(got, (whole(&row[2]), whole(&row[3])), "{row:?}");
+/// Makes the fix of a row; the answer's columns have a prefix before their names.
+fn compare_fix(state: &mut State, row: &Row, prefix: &str) {
+    let answer = state.fix(whole(&row["named"]), ["n", "e", "d"].map(|name| float(&row[name])));
+    let expected = ANSWER.map(|name| row[&format!("{prefix}{name}")].clone());
+    assert_eq!(columns(&answer), expected, "{row:?}");
+}
+
+/// How many rows were compared, by mode.
+#[derive(Default, Debug)]
+struct Compared([usize; 3]);
+
+impl Compared {
+    fn count(&mut self, mode: Mode) {
+        self.0[mode as usize] += 1;
+    }
+
+    fn assert_some(&self, modes: &[Mode]) {
+        println!("lines, fillets, Dubins: {:?}", self.0);
+        assert!(modes.iter().all(|mode| self.0[*mode as usize] > 0), "{self:?}");
     }
 }
 
-#[test]
-fn notes() {
-    let Some(folder) = corpus() else { return };
-    for row in rows(&folder, "notes.tsv") {
-        let part = note(&plan(&folder, &row[0]), row[1].parse().unwrap());
-        assert_eq!((part.start as u32, part.len() as u32), (whole(&row[2]), whole(&row[3])), "{row:?}");
-    }
-}
-
-#[test]
-fn writes() {
-    let Some(folder) = corpus() else { return };
-    for row in rows(&folder, "writes.tsv") {
-        let state = load(&plan(&folder, &row[0]), 3).unwrap_or(State::EMPTY);
-        let (number, place, file) = match write(&state, whole(&row[1]), row[2].parse().unwrap()) {
-            Ok(file) => (0, 0, file),
-            Err(r) => (r.number, r.place, Vec::new()),
-        };
-        let hex: String = if file.is_empty() { "-".into() } else { file.iter().map(|b| format!("{b:02X}")).collect() };
-        let got = [number.to_string(), place.to_string(), file.len().to_string(), hex];
-        assert_eq!(got, row[3..], "{row:?}");
-    }
-}
-
-#[test]
-fn flights() {
-    let Some(folder) = corpus() else { return };
+/// Flies the flights as far as their rows decide, which the state before the fix and the row tell.
+fn compare_flights(folder: &Path, decides: impl Fn(&State, &Row) -> bool) -> Compared {
+    let mut compared = Compared::default();
     let mut state = State::EMPTY;
-    for row in rows(&folder, "flights.tsv") {
-        if row[2] == "1" {
-            state = load(&plan(&folder, &row[0]), whole(&row[1])).unwrap_or(State::EMPTY);
+    for row in rows(folder, "flights.tsv") {
+        if row["fix"] == "1" {
+            state = load(&plan(folder, &row["file"]), whole(&row["reader"])).unwrap_or(State::EMPTY);
         }
-        let answer = state.fix(whole(&row[3]), [float(&row[4]), float(&row[5]), float(&row[6])]);
-        assert_eq!(columns(&answer), row[7..], "{row:?}");
+        if decides(&state, &row) {
+            compare_fix(&mut state, &row, "");
+            compared.count(state.mode);
+        }
     }
+    compared
 }
 
 /// The parts of a list, none where it is a dash.
@@ -95,33 +145,67 @@ fn listed(text: &str) -> impl Iterator<Item = &str> {
     text.split(';').filter(|part| *part != "-")
 }
 
-fn state_of(row: &[String]) -> State {
-    let mut state = State { serial: whole(&row[0]), radius: whole(&row[2]), count: whole(&row[3]), ..State::EMPTY };
-    state.mode = [Mode::Lines, Mode::Fillets, Mode::Dubins][whole(&row[1]) as usize];
-    for (place, text) in listed(&row[4]).enumerate() {
+fn state_of(row: &Row) -> State {
+    let number = |name: &str| whole(&row[name]);
+    let mut state = State { serial: number("serial"), radius: number("radius"), count: number("count"), ..State::EMPTY };
+    state.mode = [Mode::Lines, Mode::Fillets, Mode::Dubins][number("mode") as usize];
+    for (place, text) in listed(&row["points"]).enumerate() {
         let parts: Vec<i32> = text.split(',').map(|t| t.parse().unwrap()).collect();
         state.points[place] = [parts[0], parts[1], parts[2]];
     }
-    for (place, text) in listed(&row[5]).enumerate() {
+    for (place, text) in listed(&row["courses"]).enumerate() {
         state.courses[place] = whole(text);
     }
-    (state.index, state.phase, state.finished) = (whole(&row[6]), whole(&row[7]), row[8] == "1");
+    (state.index, state.phase, state.finished) = (number("index"), number("phase"), row["finished"] == "1");
     state
 }
 
+/// Compares the states whose rows decide.
+fn compare_states(folder: &Path, decides: impl Fn(&State, &Row) -> bool) -> Compared {
+    let mut compared = Compared::default();
+    for row in rows(folder, "states.tsv") {
+        let given = state_of(&row);
+        if !decides(&given, &row) {
+            continue;
+        }
+        assert_eq!(given.is_sound(), row["sound"] == "1", "{row:?}");
+        let mut state = given;
+        compare_fix(&mut state, &row, "a_");
+        let (number, place, file) = written(&given, &row["w_version"], &row["w_buffer"]);
+        let expected = ["w_refusal", "w_place", "w_length"].map(|name| whole(&row[name]));
+        assert_eq!([number, place, file.len() as u32], expected, "{row:?}");
+        compared.count(given.mode);
+    }
+    compared
+}
+
+/// The end of lines and fillets is decided in requests/04: their flights decide here as long as they expect no end.
+#[test]
+fn flights() {
+    let Some(folder) = corpus() else { return };
+    let compared = compare_flights(&folder, |state, row| state.mode == Mode::Dubins || row["finished"] == "0");
+    compared.assert_some(&[Mode::Lines, Mode::Fillets, Mode::Dubins]);
+}
+
+/// The last leg of lines and fillets is decided in requests/04: their states decide here before it, where no end is given or expected.
 #[test]
 fn states() {
     let Some(folder) = corpus() else { return };
-    for row in rows(&folder, "states.tsv") {
-        let given = state_of(&row);
-        assert_eq!(given.is_sound(), row[9] == "1", "{row:?}");
-        let mut state = given;
-        let answer = state.fix(whole(&row[10]), [float(&row[11]), float(&row[12]), float(&row[13])]);
-        assert_eq!(columns(&answer), row[14..28], "{row:?}");
-        let got = match write(&given, whole(&row[28]), row[29].parse().unwrap()) {
-            Ok(file) => (0, 0, file.len() as u32),
-            Err(r) => (r.number, r.place, 0),
-        };
-        assert_eq!(got, (whole(&row[30]), whole(&row[31]), whole(&row[32])), "{row:?}");
-    }
+    let compared = compare_states(&folder, |state, row| {
+        let unfinished = !state.finished && row["a_finished"] == "0";
+        state.mode == Mode::Dubins || !state.on_last_leg() && unfinished
+    });
+    compared.assert_some(&[Mode::Lines, Mode::Fillets, Mode::Dubins]);
+}
+
+#[test]
+fn last_leg_flights() {
+    let Some(folder) = last_leg_corpus() else { return };
+    compare_flights(&folder, |_, _| true).assert_some(&[Mode::Lines, Mode::Fillets]);
+}
+
+#[test]
+fn last_leg_states() {
+    let Some(folder) = last_leg_corpus() else { return };
+    compare_states(&folder, |_, _| true).assert_some(&[Mode::Lines, Mode::Fillets]);
 }

@@ -102,8 +102,8 @@ returns-4 c =
     let s = e .before .before .before .before .before in
     let y = sym (e .before .fits2 .ensures) ∙ not-false _ (e .if1 .left) in
     let h = words-hold _ _ (t .take-state .ensures) (k .if3 .left) in
-    let w = progress-kept _ _ h (λ i b. omega (arith, e .before .before .before .before .slice-known .given i)) (pair-means _ _ _ y .0) _ _ _ (x .step .ensures) in
-    let l = fix-taken _ _ _ _ _ _ (fix-fits _ _ _ y (d .if2 .left)) _ _ _ _ _ (h .taken) (x .step .ensures) (g .put-progress .ensures ∙ w) (a .put-answer .ensures) (q .put-command .ensures) in
+    let w = progress-kept _ _ h (λ i b. omega (arith, e .before .before .before .before .slice-known .given i)) (pair-means _ _ _ y .0) _ _ _ (x .step .ensures .0) in
+    let l = fix-taken _ _ _ _ _ _ (fix-fits _ _ _ y (d .if2 .left)) _ _ _ _ _ (h .taken) (x .step .ensures .0) (g .put-progress .ensures ∙ w) (a .put-answer .ensures) (q .put-command .ensures) in
     (l .result, (l .words, (l .answered, l .commanded)))
 
 pub farnkuppel-fix-spec : {M : Type 1} → statement M

@@ -42,7 +42,10 @@ put-answer-at-requires c κs =
     omega (arith, f .answers, l .loop .inv .answers-kept)
 
 mul-put-command-at : tie.Need-mul-put-command-at Inv-loop μ-loop
-mul-put-command-at c = let f = fits-means _ _ _ _ (c .before .before .before .before .before .before .before .before .before .before .before .before .before .before .pre) in omega (arith, f .commands)
+mul-put-command-at c =
+    let w = c .before .before .before .before .before .before .before .before in
+    let f = fits-means _ _ _ _ (w .before .before .before .before .before .before .pre) in
+    omega (arith, f .commands, w .loop-test .taken)
 
 put-command-at-requires : tie.Need-put-command-at-requires Inv-loop μ-loop
 put-command-at-requires c κs =
@@ -69,7 +72,7 @@ loop-again c =
     let l = w .before in
     let s = l .before .before .before .before .before in
     goes-on _ _ _ _ _ _ _ _ _ (l .loop .inv) (fits-means _ _ _ _ (s .pre)) (t .step .result) _ _ (w .loop-test .taken)
-    (t .step .ensures ∙ ap (λ (x : Fix). stepOf (l .loop .state) (getD (s .args .serials .now) (l .loop .i) 0) x) (g .fix-at .ensures)) (p .put-answer-at .ensures) (p .put-answer-at .kept .1 .1 .0)
+    (t .step .ensures .0 ∙ ap (λ (x : Fix). stepOf (l .loop .state) (getD (s .args .serials .now) (l .loop .i) 0) x) (g .fix-at .ensures)) (p .put-answer-at .ensures) (p .put-answer-at .kept .1 .1 .0)
     (q .put-command-at .ensures) (q .put-command-at .kept .1 .1 .0)
 
 same-length : tie.Need-same-length Inv-loop μ-loop

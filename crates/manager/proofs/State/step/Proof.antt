@@ -1,12 +1,11 @@
 -- `State::step` answers one fix of any state, serial and floats. Assumes nothing.
-use mathlib.Core.Path.{_≡_, refl, sym, ap, _∙_, subst}
-use lib.Dec.{eqb}
+use mathlib.Core.Path.{sym, ap, _∙_, subst}
 use borrow.Author.Tests.{eq-eqb, ne-eqb}
 use borrow.Author.Needs.{needs}
 use Rattle.integers.specs.Choose.{choose}
 use Rattle.units.specs.Position.{IsPosition}
-use Rattle.manager.specs.State.{validOf}
-use Rattle.manager.specs.Step.{locatedStep, refuseOf, movedOf, stepOf}
+use Rattle.manager.specs.Step.{locatedStep, stepOf}
+use Rattle.manager.proofs.FinishLaws.{step-promise}
 use Rattle.manager.proofs.State.step.Statement.{statement}
 use Rattle.manager.proofs.State.step.Tie as tie
 
@@ -40,7 +39,7 @@ returns c =
     let a = sym (v .before .valid .ensures .0) ∙ v .if1 .taken in
     let b = eq-eqb (s .serial) (s .self .plan .serial) (l .before .if2 .taken) in
     let e = sym (l .locate .ensures .0) ∙ c .before .before .at .given .1 in
-    rw (a, b) (c .moved .ensures ∙ sym (ap (locatedStep (s .self)) e))
+    step-promise (s .self) (s .serial) (s .fix) (rw (a, b) (c .moved .ensures ∙ sym (ap (locatedStep (s .self)) e)))
 
 returns-2 : tie.Need-returns-2
 unfolding stepOf choose locatedStep
@@ -51,7 +50,7 @@ returns-2 c =
     let a = sym (v .before .valid .ensures .0) ∙ v .if1 .taken in
     let b = eq-eqb (s .serial) (s .self .plan .serial) (l .before .if2 .taken) in
     let e = sym (l .locate .ensures .0) ∙ c .before .enum-told .given .1 in
-    rw (a, b) (c .refuse .ensures ∙ sym (ap (locatedStep (s .self)) e))
+    step-promise (s .self) (s .serial) (s .fix) (rw (a, b) (c .refuse .ensures ∙ sym (ap (locatedStep (s .self)) e)))
 
 refuse-requires-2 : tie.Need-refuse-requires-2
 refuse-requires-2 c κs = search needs
@@ -63,7 +62,7 @@ returns-3 c =
     let s = v .before .before .args in
     let a = sym (v .before .valid .ensures .0) ∙ v .if1 .taken in
     let b = ne-eqb (s .serial) (s .self .plan .serial) (c .before .if2 .left) in
-    rw (a, b) (c .refuse2 .ensures)
+    step-promise (s .self) (s .serial) (s .fix) (rw (a, b) (c .refuse2 .ensures))
 
 refuse-requires-3 : tie.Need-refuse-requires-3
 refuse-requires-3 c κs = search needs
@@ -71,8 +70,10 @@ refuse-requires-3 c κs = search needs
 returns-4 : tie.Need-returns-4
 unfolding stepOf choose
 returns-4 c =
-    let a = sym (c .before .before .valid .ensures .0) ∙ c .before .if1 .left in
-    rw a (c .refuse3 .ensures)
+    let v = c .before in
+    let s = v .before .before .args in
+    let a = sym (v .before .valid .ensures .0) ∙ v .if1 .left in
+    step-promise (s .self) (s .serial) (s .fix) (rw a (c .refuse3 .ensures))
 
 pub step-spec : {M : Type 1} → statement M
 step-spec =
