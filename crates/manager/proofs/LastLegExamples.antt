@@ -91,11 +91,14 @@ pub data Example : Type 0 where
   leads : State → Fix → Point → Point → Example
   -- the fix finishes the flight
   ends : State → Fix → Example
+  -- the fix leaves the state as it is
+  keeps : State → Fix → Example
 
 abbrev pub Holds : Example → Type 0
 Holds (leaves s fix said) = briefOf (answer s fix) ≡ said
 Holds (leads s fix a b) = answer s fix .command ≡ lineCommand a b
 Holds (ends s fix) = stepOf s 7 fix .state .finished ≡ true
+Holds (keeps s fix) = stepOf s 7 fix .state ≡ s
 
 abbrev pub All : List Example → Type 0
 All [] = Unit {0}
@@ -132,12 +135,16 @@ refusing =
     ∷ leaves (state Fillets 3 2 false) there (brief 14 3 2 false)
     ∷ []
 
--- `Finishes` speaks of something: there is a fix that meets what `sets` asks, in each mode
+-- `Finishes` speaks of something, in each mode: there is a fix that meets what `sets` asks, and a finished state that `stays` keeps. They are proved
+-- from it, so that it cannot ask for more or give less.
 abbrev pub finishing : List Example
 finishing =
     ends (state Lines 3 1 false) there
     ∷ ends (state Fillets 3 1 false) there
     ∷ ends (state Dubins 3 5 false) there
+    ∷ keeps (state Lines 3 1 true) short
+    ∷ keeps (state Fillets 3 1 true) short
+    ∷ keeps (state Dubins 3 5 true) short
     ∷ []
 
 pub each : (All passing × All ending) × (All refusing × All finishing)
@@ -148,7 +155,13 @@ each = (
     (refl, (refl, (refl, (refl, tt)))),
     (
       finishes (state Lines 3 1 false) 7 there .sets refl refl refl,
-      (finishes (state Fillets 3 1 false) 7 there .sets refl refl refl, (finishes (state Dubins 3 5 false) 7 there .sets refl refl refl, tt)),
+      (
+        finishes (state Fillets 3 1 false) 7 there .sets refl refl refl,
+        (
+          finishes (state Dubins 3 5 false) 7 there .sets refl refl refl,
+          (finishes (state Lines 3 1 true) 7 short .stays refl, (finishes (state Fillets 3 1 true) 7 short .stays refl, (finishes (state Dubins 3 5 true) 7 short .stays refl, tt))),
+        ),
+      ),
     ),
   ),
 )
