@@ -8,9 +8,9 @@ use lib.ListN.{length, getD}
 use lib.Ieee.{Float}
 use borrow.Author.Tests.{leb-true, le-leb, lt-leb}
 use Rattle.integers.proofs.ChooseLaws.{choose-true, choose-false}
-use Rattle.order.specs.Outcome.{Outcome, good, refused}
-use Rattle.order.proofs.Bools.{by-bool, both-true, both-off-second, both-off, both-first, both-second}
-use Rattle.order.proofs.OutcomeLaws.{check-true, check-false, then-good, then-stops}
+use Rattle.refusals.specs.Outcome.{Outcome, good, refused}
+use Rattle.refusals.proofs.Bools.{by-bool, both-true, both-off-second, both-off, both-first, both-second}
+use Rattle.refusals.proofs.OutcomeLaws.{check-true, check-false, then-good, then-stops}
 use Rattle.buffers.specs.Splice.{over, splice}
 use Rattle.units.specs.declared.Fix.{Fix}
 use Rattle.guidance.specs.declared.Command.the-variants.{Nothing}
@@ -18,7 +18,8 @@ use Rattle.manager.specs.declared.State.{State}
 use Rattle.manager.specs.declared.Stepped.{Stepped}
 use Rattle.manager.specs.Step.{stepOf}
 use Rattle.manager.proofs.StepLaws.{step-plan, step-refused}
-use Rattle.words.specs.Words.{misfit, wordOf, flagOf, answerWords, commandNumbers}
+use Rattle.refusals.specs.Numbers.{misfit}
+use Rattle.words.specs.Words.{wordOf, flagOf, answerWords, commandNumbers}
 use Rattle.states.specs.declared.Taken.{Taken}
 use Rattle.states.specs.Stored.{stateLength, stateWords, stateAt, holdsState, takenOf, takenBy, AreWords}
 use Rattle.states.proofs.StoredLaws.{put-back, progress-is}

@@ -6,9 +6,9 @@ use Prim.Native.Nat.{ℕ, zero, suc, _*_}
 use native.Mathlib.Omega.{arith}
 use lib.ListN.{length, drop, length-append, drop-of-length-le}
 use Rattle.integers.proofs.ChooseLaws.{choose-true}
-use Rattle.order.specs.Outcome.{good}
-use Rattle.order.specs.Sweep.{Done}
-use Rattle.order.proofs.OutcomeLaws.{then-means}
+use Rattle.refusals.specs.Outcome.{good}
+use Rattle.refusals.specs.Sweep.{Done}
+use Rattle.refusals.proofs.OutcomeLaws.{then-means}
 use Rattle.plane.specs.declared.Point.{Point}
 use Rattle.plan.specs.Limits.{mostPoints}
 use Rattle.plan.specs.Places.{noPoint, padded}

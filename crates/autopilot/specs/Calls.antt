@@ -7,14 +7,15 @@ use lib.Dec.{leb}
 use lib.ListN.{length, getD}
 use lib.Ieee.{Float}
 use Rattle.integers.specs.Choose.{choose}
-use Rattle.order.specs.Outcome.{Outcome, good, refused, andThen}
-use Rattle.order.specs.Sweep.{both}
+use Rattle.refusals.specs.Outcome.{Outcome, good, refused, andThen}
+use Rattle.refusals.specs.Sweep.{both}
 use Rattle.buffers.specs.Splice.{over}
 use Rattle.units.specs.declared.Fix.{Fix}
 use Rattle.guidance.specs.declared.Command.the-variants.{Nothing}
 use Rattle.manager.specs.declared.State.{State}
 use Rattle.manager.specs.Step.{stepOf}
-use Rattle.words.specs.Words.{misfit, wordOf, answerWords, commandNumbers}
+use Rattle.refusals.specs.Numbers.{misfit}
+use Rattle.words.specs.Words.{wordOf, answerWords, commandNumbers}
 use Rattle.states.specs.Stored.{stateLength, stateWords, takenOf}
 use Rattle.wpl.specs.declared.Loaded.{Loaded}
 use Rattle.wpl.specs.declared.Written.{Written}

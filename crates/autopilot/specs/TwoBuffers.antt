@@ -6,7 +6,7 @@ use mathlib.Core.List.{List, [], _∷_}
 use Prim.Native.Nat.{ℕ}
 use lib.ListN.{length}
 use lib.Ieee.{Float}
-use Rattle.order.specs.Outcome.{Outcome}
+use Rattle.refusals.specs.Outcome.{Outcome}
 use Rattle.units.specs.declared.Fix.{Fix}
 use Rattle.states.specs.Stored.{stateLength, takenOf}
 use Rattle.wpl.specs.Load.{loadOf, loadedOf}

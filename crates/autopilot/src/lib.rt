@@ -74,7 +74,7 @@ pub extern "C" fn farnkuppel_load(
     ensures { λ _. ⌜ now (answer .exit) ≡ loadAnswer (loadFits (now (state .entry)) (now (answer .entry))) (loadedOf (loadOf reader (now (file .entry)))) (now (answer .entry)) ⌝ }
 {
     if !fits(state.len(), answer.len(), LOAD) {
-        return words::MISFIT as u32;
+        return refusals::MISFIT as u32;
     }
     let loaded = wpl::load(file, reader);
     let held = loaded.state;
@@ -101,10 +101,10 @@ pub extern "C" fn farnkuppel_fix(
     ensures { λ _. ⌜ now (command .exit) ≡ fixCommand (fixFits (now (state .entry)) (now (answer .entry)) (now (command .entry))) (now (state .entry)) serial (record { north = north; east = east; down = down }) (now (command .entry)) ⌝ }
 {
     if !fits(state.len(), answer.len(), words::ANSWER) {
-        return words::MISFIT as u32;
+        return refusals::MISFIT as u32;
     }
     if command.len() < words::COMMAND {
-        return words::MISFIT as u32;
+        return refusals::MISFIT as u32;
     }
     let taken = states::take_state(state);
     if taken.refusal != 0 {
@@ -143,7 +143,7 @@ pub extern "C" fn farnkuppel_write(
     ensures { λ _. ⌜ now (answer .exit) ≡ writeAnswer (writeFits (now (state .entry)) (now (answer .entry))) (writeFrom (now (state .entry)) version (length (now (file .entry)))) (now (answer .entry)) ⌝ }
 {
     if !fits(state.len(), answer.len(), WRITE) {
-        return words::MISFIT as u32;
+        return refusals::MISFIT as u32;
     }
     let taken = states::take_state(state);
     if taken.refusal != 0 {

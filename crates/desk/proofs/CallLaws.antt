@@ -6,9 +6,9 @@ use Prim.Native.Nat.{ℕ, _≤_}
 use lib.ListN.{length}
 use borrow.Author.Tests.{leb-true}
 use Rattle.integers.proofs.ChooseLaws.{choose-true, choose-false}
-use Rattle.order.proofs.Bools.{both-first, both-second}
+use Rattle.refusals.proofs.Bools.{both-first, both-second}
 use Rattle.buffers.specs.Splice.{over}
-use Rattle.words.specs.Words.{misfit}
+use Rattle.refusals.specs.Numbers.{misfit}
 use Rattle.desk.specs.Calls.{mostNote, noteFits, noteResult, noteBuffer, noteAnswer}
 
 pub fits-means : (buffer answer : ℕ) → noteFits buffer answer ≡ true → (mostNote ≤ buffer) × (1 ≤ answer)

@@ -8,10 +8,10 @@ use lib.ListN.{length}
 use borrow.Author.Tests.{eqb-true, leb-true}
 use Rattle.integers.specs.Choose.{choose}
 use Rattle.integers.proofs.ChooseLaws.{choose-true, choose-false}
-use Rattle.order.specs.Outcome.{Outcome, good, refused, isGood}
-use Rattle.order.specs.Sweep.{both}
-use Rattle.order.proofs.Bools.{by-bool, clash, both-first, both-second}
-use Rattle.order.proofs.OutcomeLaws.{check-means, then-means}
+use Rattle.refusals.specs.Outcome.{Outcome, good, refused, isGood}
+use Rattle.refusals.specs.Sweep.{both}
+use Rattle.refusals.proofs.Bools.{by-bool, clash, both-first, both-second}
+use Rattle.refusals.proofs.OutcomeLaws.{check-means, then-means}
 use Rattle.manager.specs.declared.State.{State}
 use Rattle.records.specs.Walk.{Walked, end, short, more}
 use Rattle.records.specs.Kinds.{newest, between, knows, rowOf, rowIn, table, Parts, takes, knownRule, judge}

@@ -7,9 +7,9 @@ use Prim.Native.Nat.{ℕ}
 use lib.Dec.{leb}
 use lib.ListN.{length}
 use Rattle.integers.specs.Choose.{choose}
-use Rattle.order.specs.Sweep.{both}
+use Rattle.refusals.specs.Sweep.{both}
 use Rattle.buffers.specs.Splice.{over}
-use Rattle.words.specs.Words.{misfit}
+use Rattle.refusals.specs.Numbers.{misfit}
 
 -- "128 note: 1..32 bytes"
 abbrev pub mostNote : ℕ

@@ -56,7 +56,7 @@ pub extern "C" fn farnkuppel_note(
     ensures { λ _. ⌜ now (answer .exit) ≡ noteAnswer (noteFits (length (now (note .entry))) (length (now (answer .entry)))) (noteOf (now (file .entry)) number) (now (answer .entry)) ⌝ }
 {
     if !fits(note.len(), answer.len()) {
-        return words::MISFIT as u32;
+        return refusals::MISFIT as u32;
     }
     let bytes = wpl::note(file, number as usize);
     put_bytes(bytes, note);

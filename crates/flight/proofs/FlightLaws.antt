@@ -5,11 +5,11 @@ use mathlib.Core.List.{List}
 use Prim.Native.Nat.{ℕ}
 use lib.ListN.{length}
 use lib.Ieee.{Float}
-use Rattle.order.specs.Outcome.{Outcome, good, refused}
-use Rattle.order.proofs.OutcomeLaws.{check-true, check-false}
+use Rattle.refusals.specs.Outcome.{Outcome, good, refused}
+use Rattle.refusals.proofs.OutcomeLaws.{check-true, check-false}
 use Rattle.buffers.specs.Splice.{over}
 use Rattle.manager.specs.declared.State.{State}
-use Rattle.words.specs.Words.{misfit}
+use Rattle.refusals.specs.Numbers.{misfit}
 use Rattle.flight.specs.declared.Flown.{Flown}
 use Rattle.flight.specs.Run.{run}
 use Rattle.flight.specs.Flight.{namedOf, answersOf, commandsOf, lastOf, fitsOf, beginOf, flownBy, answersBy, commandsBy, flownOf, answersAfter, commandsAfter}

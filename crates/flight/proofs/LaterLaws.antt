@@ -9,10 +9,10 @@ use native.Mathlib.Omega.{arith}
 use lib.Dec.{leb, ltb, eqb}
 use lib.ListN.{length, drop, length-drop}
 use borrow.Author.Tests.{ltb-true, leb-true, eqb-true}
-use Rattle.order.specs.Outcome.{good}
-use Rattle.order.specs.Sweep.{done}
-use Rattle.order.proofs.Bools.{both-first, both-second}
-use Rattle.order.proofs.OutcomeLaws.{check-means}
+use Rattle.refusals.specs.Outcome.{good}
+use Rattle.refusals.specs.Sweep.{done}
+use Rattle.refusals.proofs.Bools.{both-first, both-second}
+use Rattle.refusals.proofs.OutcomeLaws.{check-means}
 use Rattle.manager.specs.declared.State.{State}
 use Rattle.records.specs.Walk.{Walked, walk, flat}
 use Rattle.records.specs.Kinds.{newest, Parts, noParts, sift}

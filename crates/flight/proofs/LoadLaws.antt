@@ -3,9 +3,9 @@ use mathlib.Core.Path.{_≡_, refl, ap, _∙_}
 use mathlib.Core.Bool.{true}
 use mathlib.Core.List.{List}
 use Prim.Native.Nat.{ℕ}
-use Rattle.order.specs.Outcome.{good, andThen}
-use Rattle.order.specs.Sweep.{Done, done}
-use Rattle.order.proofs.OutcomeLaws.{check-true, check-means, then-good, then-means}
+use Rattle.refusals.specs.Outcome.{good, andThen}
+use Rattle.refusals.specs.Sweep.{Done, done}
+use Rattle.refusals.proofs.OutcomeLaws.{check-true, check-means, then-good, then-means}
 use Rattle.manager.specs.declared.State.{State}
 use Rattle.records.specs.Kinds.{newest, between, Parts}
 use Rattle.wpl.specs.Header.{serialOf, headerOf}

@@ -8,9 +8,9 @@ use Prim.Native.Nat.{ℕ, _≤_}
 use native.Mathlib.Omega.{arith}
 use lib.Dec.{leb}
 use borrow.Author.Tests.{le-leb}
-use Rattle.order.specs.Outcome.{good, andThen}
-use Rattle.order.proofs.Bools.{by-bool, both-true}
-use Rattle.order.proofs.OutcomeLaws.{never-good}
+use Rattle.refusals.specs.Outcome.{good, andThen}
+use Rattle.refusals.proofs.Bools.{by-bool, both-true}
+use Rattle.refusals.proofs.OutcomeLaws.{never-good}
 use Rattle.manager.specs.declared.State.{State}
 use Rattle.records.specs.Kinds.{newest, between, noParts, holdsNewer}
 use Rattle.records.specs.Gather.{headerLength}

@@ -8,15 +8,15 @@ use lib.Dec.{eqb}
 use lib.ListN.{length}
 use lib.Ieee.{Float}
 use borrow.Author.Tests.{eq-eqb}
-use Rattle.order.specs.Outcome.{Outcome, good, refused, isGood, refusalOf}
-use Rattle.order.proofs.Bools.{by-bool, clash}
-use Rattle.order.proofs.OutcomeLaws.{Proper, proper-check, check-true, check-means}
+use Rattle.refusals.specs.Outcome.{Outcome, good, refused, isGood, refusalOf}
+use Rattle.refusals.proofs.Bools.{by-bool, clash}
+use Rattle.refusals.proofs.OutcomeLaws.{Proper, proper-check, check-true, check-means}
 use Rattle.manager.specs.declared.State.{State}
 use Rattle.manager.specs.State.{emptyState}
 use Rattle.records.specs.Kinds.{holdsNewer}
 use Rattle.wpl.specs.Load.{recordsOf, loadOf}
 use Rattle.wpl.proofs.LoadLaws.{load-proper}
-use Rattle.words.specs.Words.{misfit}
+use Rattle.refusals.specs.Numbers.{misfit}
 use Rattle.flight.specs.declared.Flown.{Flown}
 use Rattle.flight.specs.Run.{Named}
 use Rattle.flight.specs.Demand.{IsOlder}

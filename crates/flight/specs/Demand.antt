@@ -7,8 +7,9 @@ use mathlib.Core.Bool.{true, false}
 use mathlib.Core.List.{List}
 use mathlib.Core.Logic.{_⊎_, _↔_}
 use Prim.Native.Nat.{ℕ, _<_}
-use Rattle.order.specs.Outcome.{good, refused}
-use Rattle.order.specs.Sweep.{done}
+use Rattle.refusals.specs.Numbers.{tooNew}
+use Rattle.refusals.specs.Outcome.{good, refused}
+use Rattle.refusals.specs.Sweep.{done}
 use Rattle.manager.specs.declared.State.{State}
 use Rattle.manager.specs.declared.Stepped.{Stepped}
 use Rattle.records.specs.Walk.{flat, fills}
@@ -27,7 +28,7 @@ Loads r f s = loadOf r f ≡ good s
 
 -- "refuses it as too new"
 abbrev pub RefusesAsTooNew : ℕ → List ℕ → Type 0
-RefusesAsTooNew r f = (place : ℕ) × (loadOf r f ≡ refused 7 place)
+RefusesAsTooNew r f = (place : ℕ) × (loadOf r f ≡ refused tooNew place)
 
 -- "that file with its unknown optional records cut out, the area length to match and version three"
 unfoldable pub cutOut : List ℕ → List ℕ

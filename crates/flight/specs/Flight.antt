@@ -5,13 +5,14 @@ use Prim.Native.Nat.{ℕ, zero, suc, _+_, _*_}
 use lib.Dec.{eqb, leb}
 use lib.ListN.{length, getD}
 use lib.Ieee.{Float, nan}
-use Rattle.order.specs.Outcome.{Outcome, good, refused, check}
-use Rattle.order.specs.Sweep.{both}
+use Rattle.refusals.specs.Outcome.{Outcome, good, refused, check}
+use Rattle.refusals.specs.Sweep.{both}
 use Rattle.buffers.specs.Splice.{over}
 use Rattle.units.specs.declared.Fix.{Fix}
 use Rattle.manager.specs.declared.State.{State}
 use Rattle.manager.specs.declared.Stepped.{Stepped}
-use Rattle.words.specs.Words.{misfit, answerWords, commandNumbers}
+use Rattle.refusals.specs.Numbers.{misfit}
+use Rattle.words.specs.Words.{answerWords, commandNumbers}
 use Rattle.flight.specs.declared.Flown.{Flown}
 use Rattle.flight.specs.Run.{Named, run}
 

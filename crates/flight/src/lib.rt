@@ -5,7 +5,7 @@ ghost use mathlib.Core.Path.{_≡_};
 ghost use mathlib.Core.Bool.{true};
 ghost use Prim.Native.Nat.{_+_, _*_, _<_};
 ghost use lib.ListN.{length};
-ghost use Rattle.order.specs.Outcome.{good};
+ghost use Rattle.refusals.specs.Outcome.{good};
 ghost use Rattle.buffers.specs.Splice.{over};
 ghost use Rattle.manager.specs.State.{emptyState};
 ghost use Rattle.wpl.specs.Load.{loadOf};
@@ -91,7 +91,7 @@ pub fn run(
 {
     if !fits(serials.len(), fixes.len(), answers.len(), commands.len()) {
         return Flown {
-            refusal: words::MISFIT,
+            refusal: refusals::MISFIT,
             place: 0,
             state: start,
         };
@@ -118,7 +118,7 @@ pub fn fly(
 {
     if !fits(serials.len(), fixes.len(), answers.len(), commands.len()) {
         return Flown {
-            refusal: words::MISFIT,
+            refusal: refusals::MISFIT,
             place: 0,
             state: manager::empty(),
         };

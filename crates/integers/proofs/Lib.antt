@@ -2,6 +2,7 @@ pub mod Magnitudes
 pub mod BoundLaws
 pub mod ValueLaws
 pub mod Ring
+mod TwosComplementLaws
 pub mod Tests
 pub mod ChooseLaws
 pub mod FloatLaws

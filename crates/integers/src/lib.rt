@@ -1,8 +1,10 @@
-// Whole numbers: magnitude, rounding, the square root, long products and sums of courses.
+// Whole numbers: magnitude, two's complement, rounding, the square root, long products and sums of courses.
 ghost use mathlib.Core.Path.{_≡_};
 ghost use Prim.Native.Nat.{_+_, _*_, _<_, _^_};
 ghost use lib.Dec.{leb};
 ghost use lib.IntN.{natAbs};
+ghost use mir.Syntax.{w32};
+ghost use mir.Val.{toZ, ofZ};
 ghost use Rattle.integers.specs.Floats.{bitsFrom};
 ghost use Rattle.integers.specs.Root.{rootOf};
 ghost use Rattle.integers.specs.Round.{nearestOf};
@@ -18,6 +20,32 @@ pub fn magnitude(x: i64) -> u64
     } else {
         x as u64
     }
+}
+
+// From this u32 up an i32 is negative.
+const SIGN_BIT: u32 = 2147483648;
+
+// The bits of -1.
+pub const MINUS_ONE: u32 = 4294967295;
+
+// The number that bits are, in two's complement.
+pub fn signed(u: u32) -> i32
+    ensures { λ r. ⌜ r ≡ toZ w32 u ⌝ }
+{
+    if u < SIGN_BIT {
+        return u as i32;
+    }
+    -1 - ((MINUS_ONE - u) as i32)
+}
+
+// The bits of a number.
+pub fn unsigned(z: i32) -> u32
+    ensures { λ r. ⌜ r ≡ ofZ w32 z ⌝ }
+{
+    if 0 <= z {
+        return z as u32;
+    }
+    MINUS_ONE - ((-1 - z) as u32)
 }
 
 // x / 16,384 to the nearest whole number, halves away from zero.

@@ -11,8 +11,8 @@ use Rattle.integers.specs.Choose.{choose}
 use Rattle.integers.specs.Root.{nextRoot, rootBy, rootOf}
 use Rattle.integers.specs.Round.{nearestOf}
 use Rattle.integers.specs.Wrap.{wrapOf}
-use Rattle.order.specs.Outcome.{check, andThen, isGood}
-use Rattle.order.specs.Sweep.{sweep, both, every}
+use Rattle.refusals.specs.Outcome.{check, andThen, isGood}
+use Rattle.refusals.specs.Sweep.{sweep, both, every}
 use Rattle.course.specs.Table.{series, scaledSine, sineOf}
 use Rattle.course.specs.Vectors.{cross}
 use Rattle.course.specs.Direction.{quarter, turned, directionOf}

@@ -6,8 +6,8 @@ use Prim.Native.Nat.{ℕ, _+_, _-_, _≤_, _<_}
 use native.Mathlib.Omega.{arith}
 use borrow.Author.Tests.{leb-true, eqb-true, eqb-false}
 use Rattle.integers.specs.Choose.{choose}
-use Rattle.order.specs.Sweep.{both}
-use Rattle.order.proofs.Bools.{by-bool, both-first, both-second}
+use Rattle.refusals.specs.Sweep.{both}
+use Rattle.refusals.proofs.Bools.{by-bool, both-first, both-second}
 use Rattle.plane.specs.Area.{InArea}
 use Rattle.fillets.specs.Corners.{turnOf}
 use Rattle.dubins.specs.declared.Path.{Path}

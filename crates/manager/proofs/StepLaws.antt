@@ -6,9 +6,9 @@ use native.Mathlib.Omega.{arith}
 use lib.Dec.{eqb, leb, ltb}
 use borrow.Author.Tests.{leb-true, ltb-true, ltb-false, le-leb, eq-eqb, ne-eqb}
 use Rattle.integers.specs.Choose.{choose}
-use Rattle.order.specs.Sweep.{both}
+use Rattle.refusals.specs.Sweep.{both}
 use Rattle.integers.proofs.ChooseLaws.{choose-true, choose-false}
-use Rattle.order.proofs.Bools.{by-bool, clash, both-off, both-off-second, both-first, both-second, both-true}
+use Rattle.refusals.proofs.Bools.{by-bool, clash, both-off, both-off-second, both-first, both-second, both-true}
 use Rattle.plane.specs.declared.Point.{Point}
 use Rattle.units.specs.declared.Fix.{Fix}
 use Rattle.units.specs.declared.Position.{Position}

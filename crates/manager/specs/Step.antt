@@ -2,6 +2,7 @@
 use mathlib.Core.Bool.{Bool, true, false}
 use Prim.Native.Nat.{ℕ, _+_, _-_}
 use lib.Dec.{eqb, ltb}
+use Rattle.refusals.specs.Numbers.{noPosition, noState, otherSerial}
 use Rattle.integers.specs.Choose.{choose}
 use Rattle.plane.specs.declared.Point.{Point}
 use Rattle.units.specs.declared.Fix.{Fix}
@@ -97,9 +98,9 @@ movedOf s p = answered (guideHere s p) (nextOf s (guideHere s p .passed))
 
 unfoldable pub locatedStep : State → Position → Stepped
 locatedStep s (At p) = movedOf s p
-locatedStep s Nowhere = refuseOf s 13
+locatedStep s Nowhere = refuseOf s noPosition
 
 -- "A fix checks 14, 15, 13"
 unfoldable pub stepOf : State → ℕ → Fix → Stepped
 stepOf s serial fix =
-    choose (validOf s) (choose (eqb serial (s .plan .serial)) (locatedStep s (positionOf fix)) (refuseOf s 15)) (refuseOf s 14)
+    choose (validOf s) (choose (eqb serial (s .plan .serial)) (locatedStep s (positionOf fix)) (refuseOf s otherSerial)) (refuseOf s noState)

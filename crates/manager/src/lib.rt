@@ -43,13 +43,6 @@ pub struct Stepped {
     pub state: State,
 }
 
-// Document 01's numbers that a fix is refused with.
-pub const NO_POSITION: u8 = 13;
-
-pub const NO_STATE: u8 = 14;
-
-pub const OTHER_SERIAL: u8 = 15;
-
 // The state of no plan, which every fix and write refuses.
 pub fn empty() -> State
     ensures { λ r. ⌜ r ≡ emptyState ⌝ }
@@ -306,11 +299,11 @@ impl State {
             if serial == p.serial {
                 return match units::locate(fix) {
                     Position::At(at) => moved(self, at),
-                    Position::Nowhere => refuse(self, NO_POSITION),
+                    Position::Nowhere => refuse(self, refusals::NO_POSITION),
                 };
             }
-            return refuse(self, OTHER_SERIAL);
+            return refuse(self, refusals::OTHER_SERIAL);
         }
-        refuse(self, NO_STATE)
+        refuse(self, refusals::NO_STATE)
     }
 }

@@ -8,8 +8,8 @@ use lib.IntN.{ℤ, natAbs}
 use borrow.Author.Tests.{eqb-true, leb-true, le-leb}
 use Rattle.integers.specs.Bounds.{Within}
 use Rattle.integers.proofs.BoundLaws.{within-le}
-use Rattle.order.specs.Sweep.{both}
-use Rattle.order.proofs.Bools.{both-true, both-first, both-second}
+use Rattle.refusals.specs.Sweep.{both}
+use Rattle.refusals.proofs.Bools.{both-true, both-first, both-second}
 use Rattle.plane.specs.declared.Point.{Point}
 use Rattle.plane.specs.Area.{InArea}
 use Rattle.plan.specs.declared.Mode.{Mode}

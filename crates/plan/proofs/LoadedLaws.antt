@@ -10,10 +10,10 @@ use lib.ListN.{length, List·getD-eq-default}
 use borrow.Author.Tests.{eqb-true, eqb-false, ltb-true, ltb-false, eq-eqb, lt-ltb}
 use Rattle.integers.specs.Choose.{choose}
 use Rattle.integers.proofs.ChooseLaws.{choose-true, choose-false}
-use Rattle.order.specs.Outcome.{isGood}
-use Rattle.order.specs.Sweep.{both}
-use Rattle.order.proofs.Bools.{by-bool, clash, both-true}
-use Rattle.order.proofs.SweepLaws.{every-of}
+use Rattle.refusals.specs.Outcome.{isGood}
+use Rattle.refusals.specs.Sweep.{both}
+use Rattle.refusals.proofs.Bools.{by-bool, clash, both-true}
+use Rattle.refusals.proofs.SweepLaws.{every-of}
 use Rattle.plane.specs.declared.Point.{Point}
 use Rattle.plane.specs.Area.{InArea}
 use Rattle.plan.specs.declared.Mode.{Mode}

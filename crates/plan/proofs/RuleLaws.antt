@@ -6,12 +6,12 @@ use native.Mathlib.Omega.{arith}
 use lib.Dec.{eqb, ltb}
 use borrow.Author.Tests.{ltb-false, leb-true, le-leb, lt-leb}
 use Rattle.integers.specs.Choose.{choose}
-use Rattle.order.specs.declared.Refusal.{Refusal}
-use Rattle.order.specs.Outcome.{Outcome, good, refused, check, andThen, refusalOf, isGood}
-use Rattle.order.specs.Sweep.{Done, done}
-use Rattle.order.proofs.Bools.{clash}
-use Rattle.order.proofs.OutcomeLaws.{Proper, check-true, check-false, check-first, check-rest, then-good, then-refused, good-first, proper-check, proper-then}
-use Rattle.order.proofs.SweepLaws.{sweep-means, sweep-zeros, sweep-done, proper-sweep}
+use Rattle.refusals.specs.declared.Refusal.{Refusal}
+use Rattle.refusals.specs.Outcome.{Outcome, good, refused, check, andThen, refusalOf, isGood}
+use Rattle.refusals.specs.Sweep.{Done, done}
+use Rattle.refusals.proofs.Bools.{clash}
+use Rattle.refusals.proofs.OutcomeLaws.{Proper, check-true, check-false, check-first, check-rest, then-good, then-refused, good-first, proper-check, proper-then}
+use Rattle.refusals.proofs.SweepLaws.{sweep-means, sweep-zeros, sweep-done, proper-sweep}
 use Rattle.plane.specs.declared.Point.{Point}
 use Rattle.fillets.specs.Corners.{turnOf}
 use Rattle.dubins.specs.Choice.{hasPathOf, farApart}

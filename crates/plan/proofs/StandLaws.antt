@@ -7,11 +7,11 @@ use native.Mathlib.Omega.{arith}
 use lib.Dec.{eqb, ltb}
 use borrow.Author.Tests.{eqb-true, eqb-false, ltb-true, ltb-false, leb-true, le-leb, eq-eqb, ne-eqb, not-true}
 use Rattle.integers.specs.Choose.{choose}
-use Rattle.order.specs.declared.Refusal.{Refusal}
-use Rattle.order.specs.Outcome.{refusalOf, isGood}
-use Rattle.order.specs.Sweep.{both, every}
-use Rattle.order.proofs.Bools.{by-bool, both-on, both-first, both-second}
-use Rattle.order.proofs.SweepLaws.{every-means, every-same, every-both, every-change}
+use Rattle.refusals.specs.declared.Refusal.{Refusal}
+use Rattle.refusals.specs.Outcome.{refusalOf, isGood}
+use Rattle.refusals.specs.Sweep.{both, every}
+use Rattle.refusals.proofs.Bools.{by-bool, both-on, both-first, both-second}
+use Rattle.refusals.proofs.SweepLaws.{every-means, every-same, every-both, every-change}
 use Rattle.plane.specs.declared.Point.{Point}
 use Rattle.plane.specs.Area.{InArea}
 use Rattle.plan.specs.declared.Mode.{Mode}

@@ -3,7 +3,7 @@ use mathlib.Core.Bool.{Bool}
 use Prim.Native.Nat.{ℕ}
 use lib.Dec.{leb, eqb}
 use lib.IntN.{ℤ, natAbs}
-use Rattle.order.specs.Sweep.{both}
+use Rattle.refusals.specs.Sweep.{both}
 use Rattle.plane.specs.declared.Point.{Point}
 use Rattle.plan.specs.declared.Mode.{Mode}
 use Rattle.plan.specs.declared.Mode.the-variants.{Lines, Fillets, Dubins}

@@ -4,8 +4,8 @@ use mathlib.Core.Bool.{Bool, true, not}
 use Prim.Native.Nat.{ℕ, _-_, _+_, _≤_, _<_}
 use lib.Dec.{eqb, leb, ltb}
 use Rattle.integers.specs.Choose.{choose}
-use Rattle.order.specs.Outcome.{Outcome, isGood}
-use Rattle.order.specs.Sweep.{Done, both, every}
+use Rattle.refusals.specs.Outcome.{Outcome, isGood}
+use Rattle.refusals.specs.Sweep.{Done, both, every}
 use Rattle.plane.specs.declared.Point.{Point}
 use Rattle.plane.specs.Area.{InArea}
 use Rattle.fillets.specs.Corners.{turnOf}

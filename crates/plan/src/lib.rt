@@ -1,14 +1,14 @@
 // A plan, its limits and its rules (document 01, "What the manager covers" and refusals 8 to 12 and 17).
 use dubins::Ends;
-use order::Refusal;
 use plane::Point;
+use refusals::Refusal;
 ghost use mathlib.Core.Path.{_≡_};
 ghost use mathlib.Core.Bool.{true};
 ghost use Prim.Native.Nat.{ℕ, _-_, _≤_};
 ghost use lib.Dec.{eqb, ltb};
 ghost use Rattle.integers.specs.Choose.{choose};
-ghost use Rattle.order.specs.Outcome.{andThen, refusalOf};
-ghost use Rattle.order.specs.Sweep.{Done, every};
+ghost use Rattle.refusals.specs.Outcome.{andThen, refusalOf};
+ghost use Rattle.refusals.specs.Sweep.{Done, every};
 ghost use Rattle.plane.specs.Area.{InArea};
 ghost use Rattle.dubins.specs.Limits.{IsEnds};
 ghost use Rattle.plan.specs.declared.Mode.the-variants.{Lines, Fillets, Dubins};
@@ -150,7 +150,7 @@ fn pair_number(a: Point, b: Point) -> u8
     ensures { λ r. ⌜ r ≡ pairNumber a b ⌝ }
 {
     if plane::squared(plane::level_leg(a, b)) == 0 {
-        10
+        refusals::EQUAL_NEIGHBOURS
     } else {
         0
     }
@@ -162,7 +162,7 @@ fn line_corner_number(a: Point, b: Point, c: Point) -> u8
     ensures { λ r. ⌜ r ≡ cornerNumber Lines a b c ⌝ }
 {
     if plane::opposite(plane::leg_between(a, b), plane::leg_between(b, c)) {
-        11
+        refusals::SHARP_CORNER
     } else {
         0
     }
@@ -176,7 +176,7 @@ fn tangent_number(a: Point, b: Point, tangents: u64) -> u8
     if tangents * tangents <= plane::squared(plane::level_leg(a, b)) {
         0
     } else {
-        12
+        refusals::SHORT_LEG
     }
 }
 
@@ -195,9 +195,9 @@ fn ends_number(ends: Ends) -> u8
         if dubins::has_path(ends) {
             return 0;
         }
-        return 17;
+        return refusals::NO_CASE;
     }
-    12
+    refusals::SHORT_LEG
 }
 
 // A number at a place, or no refusal where it is 0.
@@ -302,7 +302,7 @@ fn fillet_rules(p: Plan) -> Refusal
         let turn = fillets::lesser_turn(before, after);
         if MOST_TURN < turn {
             return Refusal {
-                number: 11,
+                number: refusals::SHARP_CORNER,
                 place: i + 1,
             };
         }
@@ -385,13 +385,13 @@ pub fn rules(p: Plan, given: usize) -> Refusal
     let count = p.count;
     if count < FEWEST_POINTS {
         return Refusal {
-            number: 8,
+            number: refusals::POINT_COUNT,
             place: 0,
         };
     }
     if POINTS < count {
         return Refusal {
-            number: 8,
+            number: refusals::POINT_COUNT,
             place: 0,
         };
     }
@@ -399,7 +399,7 @@ pub fn rules(p: Plan, given: usize) -> Refusal
         return geometry(p);
     }
     Refusal {
-        number: 9,
+        number: refusals::COURSE_COUNT,
         place: 0,
     }
 }

@@ -2,14 +2,14 @@
 -- counted up to one and not stored, which is all that refusals 8 and 9 ask. Assumes nothing.
 use Prim.Native.Nat.{ℕ, _+_, min}
 use lib.ListN.{length}
-use Rattle.order.specs.Outcome.{Outcome, good, refused}
+use Rattle.refusals.specs.Outcome.{Outcome, good, refused}
 use Rattle.plan.specs.Limits.{mostPoints}
 use Rattle.plan.specs.Places.{noPoint, padded}
 use Rattle.records.specs.declared.Effect.{Effect}
 use Rattle.records.specs.declared.Effect.the-variants.{Nothing, AddPoint, SetRadius, AddCourse, Wrong, TooNew}
 use Rattle.records.specs.declared.Tally.{Tally}
 use Rattle.records.specs.declared.Gathered.{Gathered}
-use Rattle.records.specs.Kinds.{Parts, noParts, withPoint, withRadius, withCourse, Verdict, takes, wrong, tooNew}
+use Rattle.records.specs.Kinds.{Parts, noParts, withPoint, withRadius, withCourse, Verdict, takes, wrong, beyond}
 
 -- up to one more than a plan's places
 abbrev pub counted : ℕ → ℕ
@@ -32,7 +32,7 @@ verdictOf a (AddPoint p) = takes (withPoint a p)
 verdictOf a (SetRadius n) = takes (withRadius a n)
 verdictOf a (AddCourse c) = takes (withCourse a c)
 verdictOf a Wrong = wrong
-verdictOf a TooNew = tooNew
+verdictOf a TooNew = beyond
 
 -- parts as the answer
 abbrev pub answerOf : ℕ → ℕ → Parts → Gathered

@@ -7,8 +7,6 @@ use plane::Point;
 ghost use mathlib.Core.Path.{_≡_};
 ghost use Prim.Native.Nat.{ℕ, _+_};
 ghost use lib.ListN.{getD};
-ghost use mir.Syntax.{w32};
-ghost use mir.Val.{toZ};
 ghost use Rattle.records.specs.Numbers.{u16At, u32At, i32At};
 ghost use Rattle.records.specs.Gather.{headerLength, gatherFrom, wholeEnd, verdictAt};
 ghost use Rattle.records.specs.Held.{counted, tallyOf, verdictOf, answerOf, gatheredOf};
@@ -42,28 +40,6 @@ const ONE_BYTE: u16 = 256;
 
 const TWO_BYTES: u32 = 65536;
 
-// From this u32 up an i32 is negative.
-const SIGN_BIT: u32 = 2147483648;
-
-// The bits of -1.
-const MINUS_ONE: u32 = 4294967295;
-
-// The refusals of a record (document 01, "Refusal numbers and their order").
-const WRONG: u8 = 6;
-
-const TOO_NEW: u8 = 7;
-
-// The kinds.
-pub const POINT_KIND: u8 = 1;
-
-pub const RADIUS_KIND: u8 = 2;
-
-pub const COURSE_KIND: u8 = 3;
-
-pub const NOTE_KIND: u8 = 128;
-
-pub const SPEED_KIND: u8 = 129;
-
 // The least kind that is optional to a reader that lacks it.
 const OPTIONAL: u8 = 128;
 
@@ -73,48 +49,53 @@ const LEAST_SPEED: usize = 1;
 const MOST_SPEED: usize = 1000;
 
 // A row of the table: a kind, the first version that has it, the least and the greatest length of its body.
-struct Kind {
-    kind: u8,
-    since: u16,
-    low: usize,
-    high: usize,
+pub struct Kind {
+    pub kind: u8,
+    pub since: u16,
+    pub low: usize,
+    pub high: usize,
 }
+
+// The rows. Whoever asks for a kind's number, first version or length asks its row.
+pub const POINT: Kind = Kind {
+    kind: 1,
+    since: 1,
+    low: 12,
+    high: 12,
+};
+
+pub const RADIUS: Kind = Kind {
+    kind: 2,
+    since: 2,
+    low: 2,
+    high: 2,
+};
+
+pub const COURSE: Kind = Kind {
+    kind: 3,
+    since: 3,
+    low: 2,
+    high: 2,
+};
+
+pub const NOTE: Kind = Kind {
+    kind: 128,
+    since: 2,
+    low: 1,
+    high: 32,
+};
+
+pub const SPEED: Kind = Kind {
+    kind: 129,
+    since: 3,
+    low: 2,
+    high: 2,
+};
 
 const KINDS: usize = 5;
 
 // Document 01's table. Reader versions consult it, and nothing else says which kinds there are.
-const TABLE: [Kind; KINDS] = [
-    Kind {
-        kind: POINT_KIND,
-        since: 1,
-        low: 12,
-        high: 12,
-    },
-    Kind {
-        kind: RADIUS_KIND,
-        since: 2,
-        low: 2,
-        high: 2,
-    },
-    Kind {
-        kind: COURSE_KIND,
-        since: 3,
-        low: 2,
-        high: 2,
-    },
-    Kind {
-        kind: NOTE_KIND,
-        since: 2,
-        low: 1,
-        high: 32,
-    },
-    Kind {
-        kind: SPEED_KIND,
-        since: 3,
-        low: 2,
-        high: 2,
-    },
-];
+const TABLE: [Kind; KINDS] = [POINT, RADIUS, COURSE, NOTE, SPEED];
 
 // What a record does to what was gathered before it.
 enum Effect {
@@ -206,21 +187,11 @@ pub fn u32_at(s: &[u8], i: usize) -> u32
     (u16_at(s, i) as u32) * TWO_BYTES + (u16_at(s, i + 2) as u32)
 }
 
-// Two's complement.
-pub fn signed(u: u32) -> i32
-    ensures { λ r. ⌜ r ≡ toZ w32 u ⌝ }
-{
-    if u < SIGN_BIT {
-        return u as i32;
-    }
-    -1 - ((MINUS_ONE - u) as i32)
-}
-
 // Four bytes from i on as a signed number.
 fn i32_at(s: &[u8], i: usize) -> i32
     ensures { λ r. ⌜ r ≡ i32At (now (s .entry)) i ⌝ }
 {
-    signed(u32_at(s, i))
+    integers::signed(u32_at(s, i))
 }
 
 // Whether low <= x <= high.
@@ -275,7 +246,7 @@ fn course_rule(body: &[u8], before: Tally) -> Effect
 fn optional_rule(kind: u8, body: &[u8]) -> Effect
     ensures { λ x. ⌜ ((a : Parts) → verdictOf a x ≡ optionalRule kind (now (body .entry)) a) ⌝ }
 {
-    if kind == SPEED_KIND {
+    if kind == SPEED.kind {
         if !between(LEAST_SPEED, MOST_SPEED, u16_at(body, 0) as usize) {
             return Effect::Wrong;
         }
@@ -301,10 +272,10 @@ fn value_rule(kind: u8, body: &[u8], before: Tally) -> Effect
     if OPTIONAL <= kind {
         return optional_rule(kind, body);
     }
-    if kind == POINT_KIND {
+    if kind == POINT.kind {
         return point_rule(body);
     }
-    if kind == RADIUS_KIND {
+    if kind == RADIUS.kind {
         return radius_rule(body, before);
     }
     course_rule(body, before)
@@ -479,8 +450,8 @@ pub fn gather(file: &[u8], reader: u32, version: u16) -> Gathered
                     gathered.courses[given] = course;
                 }
             }
-            Effect::Wrong => return nothing_gathered(WRONG, at),
-            Effect::TooNew => return nothing_gathered(TOO_NEW, at),
+            Effect::Wrong => return nothing_gathered(refusals::WRONG_RECORD, at),
+            Effect::TooNew => return nothing_gathered(refusals::TOO_NEW, at),
         }
         at = to;
     }

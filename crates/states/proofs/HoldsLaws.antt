@@ -6,9 +6,9 @@ use Prim.Native.Nat.{ℕ, _≤_, _<_}
 use native.Mathlib.Omega.{arith}
 use lib.ListN.{getD}
 use borrow.Author.Tests.{leb-true, ltb-true}
-use Rattle.order.specs.Outcome.{check}
-use Rattle.order.proofs.Bools.{both-first, both-second}
-use Rattle.order.proofs.SweepLaws.{every-means}
+use Rattle.refusals.specs.Outcome.{check}
+use Rattle.refusals.proofs.Bools.{both-first, both-second}
+use Rattle.refusals.proofs.SweepLaws.{every-means}
 use Rattle.plan.specs.Limits.{mostPoints}
 use Rattle.manager.specs.declared.State.{State}
 use Rattle.manager.specs.State.{emptyState}

@@ -14,10 +14,10 @@ use mir.Val.{toZ, ofZ}
 use mir.Facts.{toZ-ofZ, ofZ-toZ}
 use borrow.Author.Tests.{lt-ltb, le-leb}
 use Rattle.integers.specs.Choose.{choose}
-use Rattle.order.specs.Outcome.{good}
-use Rattle.order.proofs.Bools.{both-true}
-use Rattle.order.proofs.OutcomeLaws.{check-true}
-use Rattle.order.proofs.SweepLaws.{every-of}
+use Rattle.refusals.specs.Outcome.{good}
+use Rattle.refusals.proofs.Bools.{both-true}
+use Rattle.refusals.proofs.OutcomeLaws.{check-true}
+use Rattle.refusals.proofs.SweepLaws.{every-of}
 use Rattle.buffers.specs.Splice.{over, splice}
 use Rattle.plane.specs.declared.Point.{Point}
 use Rattle.plan.specs.declared.Mode.{Mode}

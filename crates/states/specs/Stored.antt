@@ -7,8 +7,9 @@ use lib.ListN.{length, getD}
 use mir.Syntax.{w32}
 use mir.Val.{toZ, ofZ}
 use Rattle.integers.specs.Choose.{choose}
-use Rattle.order.specs.Outcome.{Outcome, good, refused, check}
-use Rattle.order.specs.Sweep.{both, every}
+use Rattle.refusals.specs.Numbers.{noState}
+use Rattle.refusals.specs.Outcome.{Outcome, good, refused, check}
+use Rattle.refusals.specs.Sweep.{both, every}
 use Rattle.plane.specs.declared.Point.{Point}
 use Rattle.plan.specs.declared.Mode.{Mode}
 use Rattle.plan.specs.declared.Mode.the-variants.{Lines, Fillets, Dubins}
@@ -99,7 +100,7 @@ holdsState ws =
 
 -- "are refused 14"
 unfoldable pub takenOf : List ℕ → Outcome State
-takenOf ws = check (holdsState ws) 14 (good (stateAt ws))
+takenOf ws = check (holdsState ws) noState (good (stateAt ws))
 
 -- as the struct that `take_state` answers
 unfoldable pub takenBy : Outcome State → Taken

@@ -8,7 +8,7 @@ ghost use mathlib.Core.Bool.{true};
 ghost use mathlib.Core.List.{[], _∷_};
 ghost use Prim.Native.Nat.{_+_, _≤_, _<_};
 ghost use lib.ListN.{length};
-ghost use Rattle.order.specs.Sweep.{every};
+ghost use Rattle.refusals.specs.Sweep.{every};
 ghost use Rattle.buffers.specs.Splice.{over, splice};
 ghost use Rattle.plan.specs.Limits.{mostPoints};
 ghost use Rattle.words.specs.Words.{wordOf, flagOf};
@@ -90,9 +90,9 @@ fn point_at(words: &[u32], i: usize) -> Point
     ensures { λ r. ⌜ r ≡ pointAt (now (words .entry)) i ⌝ }
 {
     let at = POINTS + POINT * i;
-    let north = records::signed(words[at]);
-    let east = records::signed(words[at + 1]);
-    let down = records::signed(words[at + 2]);
+    let north = integers::signed(words[at]);
+    let east = integers::signed(words[at + 1]);
+    let down = integers::signed(words[at + 2]);
     Point { north, east, down }
 }
 
@@ -185,7 +185,7 @@ pub fn take_state(words: &[u32]) -> Taken
 {
     if !holds_state(words) {
         return Taken {
-            refusal: manager::NO_STATE,
+            refusal: refusals::NO_STATE,
             state: manager::empty(),
         };
     }
@@ -229,9 +229,9 @@ fn put_point(point: Point, at: usize, words: &mut [u32])
     ensures { λ _. ⌜ now (words .exit) ≡ splice at (pointWords (point ∷ [])) (now (words .entry)) ⌝ }
 {
     put_three(
-        writer::bits(point.north),
-        writer::bits(point.east),
-        writer::bits(point.down),
+        integers::unsigned(point.north),
+        integers::unsigned(point.east),
+        integers::unsigned(point.down),
         at,
         words,
     );

@@ -11,10 +11,6 @@ use Rattle.guidance.specs.declared.Command.{Command}
 use Rattle.guidance.specs.declared.Command.the-variants.{Line, Circle, Nothing}
 use Rattle.manager.specs.declared.Answer.{Answer}
 
--- the refusal of lent slices that are too short, or of lists that differ in length: none of document 01's numbers
-abbrev pub misfit : ℕ
-misfit = 100
-
 -- what a word holds of a number. Places, and the indices of states that are loaded or taken from words, are below 2^32.
 unfoldable pub wordOf : ℕ → ℕ
 wordOf n = n % 4294967296

@@ -13,18 +13,12 @@ pub const ANSWER: usize = 8;
 
 pub const COMMAND: usize = 6;
 
-// The refusal of lent slices that are too short, or of lists that differ in length. It is none of document 01's numbers.
-pub const MISFIT: u8 = 100;
-
 // The kinds of command.
 const NO_COMMAND: u32 = 0;
 
 const LINE: u32 = 1;
 
 const CIRCLE: u32 = 2;
-
-// Two's complement of -1.
-const MINUS_ONE: u32 = 4294967295;
 
 // How many values a word has.
 const WORD: usize = 4294967296;
@@ -64,7 +58,7 @@ fn sense_word(sense: i8) -> u32
     ensures { λ r. ⌜ r ≡ senseWord sense ⌝ }
 {
     if sense < 0 {
-        return MINUS_ONE;
+        return integers::MINUS_ONE;
     }
     1
 }

@@ -7,10 +7,10 @@ use Prim.Native.Nat.{ℕ, _+_, _-_, _≤_}
 use native.Mathlib.Omega.{arith}
 use lib.ListN.{length, drop}
 use borrow.Author.Tests.{le-leb, lt-ltb, eq-eqb}
-use Rattle.order.specs.Outcome.{good}
-use Rattle.order.specs.Sweep.{done, both}
-use Rattle.order.proofs.Bools.{both-true}
-use Rattle.order.proofs.OutcomeLaws.{check-true}
+use Rattle.refusals.specs.Outcome.{good}
+use Rattle.refusals.specs.Sweep.{done, both}
+use Rattle.refusals.proofs.Bools.{both-true}
+use Rattle.refusals.proofs.OutcomeLaws.{check-true}
 use Rattle.records.specs.Numbers.{u16At, u32At, u16Bytes, u32Bytes}
 use Rattle.records.specs.Walk.{Walked, walk, fills, flat}
 use Rattle.records.specs.Gather.{headerLength}

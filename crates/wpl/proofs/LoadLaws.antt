@@ -10,12 +10,12 @@ use lib.Dec.{eqb, leb, ltb}
 use lib.ListN.{length, getD, drop}
 use borrow.Author.Tests.{le-leb, lt-leb, lt-ltb, le-ltb, eq-eqb, ne-eqb, ltb-true, ltb-false, eqb-true}
 use Rattle.integers.proofs.ChooseLaws.{choose-false}
-use Rattle.order.specs.declared.Refusal.{Refusal}
-use Rattle.order.specs.Outcome.{Outcome, good, refused, check, andThen, refusalOf, isGood}
-use Rattle.order.specs.Sweep.{Done, done, both}
-use Rattle.order.proofs.Bools.{by-bool, clash, both-true, both-on, both-second, both-off, both-off-second}
-use Rattle.order.proofs.OutcomeLaws.{Proper, proper-good, proper-check, proper-then, check-true, check-false, then-good, then-stops}
-use Rattle.order.proofs.SweepLaws.{good-is}
+use Rattle.refusals.specs.declared.Refusal.{Refusal}
+use Rattle.refusals.specs.Outcome.{Outcome, good, refused, check, andThen, refusalOf, isGood}
+use Rattle.refusals.specs.Sweep.{Done, done, both}
+use Rattle.refusals.proofs.Bools.{by-bool, clash, both-true, both-on, both-second, both-off, both-off-second}
+use Rattle.refusals.proofs.OutcomeLaws.{Proper, proper-good, proper-check, proper-then, check-true, check-false, then-good, then-stops}
+use Rattle.refusals.proofs.SweepLaws.{good-is}
 use Rattle.plane.specs.Area.{InArea}
 use Rattle.plan.specs.declared.Mode.{Mode}
 use Rattle.plan.specs.declared.Plan.{Plan}

@@ -9,9 +9,9 @@ use lib.Dec.{eqb, leb, ltb}
 use lib.ListN.{length, getD, take}
 use lib.Seq.{getD-take, length-take-le}
 use borrow.Author.Tests.{eqb-true, le-leb, lt-leb}
-use Rattle.order.specs.Outcome.{Outcome, good, check, andThen}
-use Rattle.order.specs.Sweep.{Done, done}
-use Rattle.order.proofs.Bools.{by-bool, both-off, both-off-second}
+use Rattle.refusals.specs.Outcome.{Outcome, good, check, andThen}
+use Rattle.refusals.specs.Sweep.{Done, done}
+use Rattle.refusals.proofs.Bools.{by-bool, both-off, both-off-second}
 use Rattle.records.specs.Numbers.{u16At, u32At}
 use Rattle.records.specs.Kinds.{newest, between}
 use Rattle.records.specs.Gather.{headerLength}

@@ -10,9 +10,9 @@ use lib.ListN.{length, take, getD}
 use lib.Seq.{length-take-le, getD-take}
 use borrow.Author.Tests.{leb-true, eqb-true, le-ltb}
 use Rattle.integers.proofs.ChooseLaws.{choose-false}
-use Rattle.order.specs.Outcome.{isGood}
-use Rattle.order.proofs.Bools.{both-first, both-second}
-use Rattle.order.proofs.SweepLaws.{every-means}
+use Rattle.refusals.specs.Outcome.{isGood}
+use Rattle.refusals.proofs.Bools.{both-first, both-second}
+use Rattle.refusals.proofs.SweepLaws.{every-means}
 use Rattle.plane.specs.declared.Point.{Point}
 use Rattle.plan.specs.declared.Mode.{Mode}
 use Rattle.plan.specs.declared.Mode.the-variants.{Lines, Fillets, Dubins}

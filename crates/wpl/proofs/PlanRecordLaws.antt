@@ -8,7 +8,7 @@ use native.Mathlib.Omega.{arith}
 use lib.Dec.{eqb·suc-zero}
 use lib.ListN.{length, length-append}
 use Rattle.integers.specs.Choose.{choose}
-use Rattle.order.specs.Outcome.{good}
+use Rattle.refusals.specs.Outcome.{good}
 use Rattle.plane.specs.declared.Point.{Point}
 use Rattle.plane.specs.Area.{InArea}
 use Rattle.plan.specs.declared.Plan.{Plan}

@@ -6,10 +6,10 @@ use Prim.Native.Nat.{ℕ, _≤_}
 use native.Mathlib.Omega.{arith}
 use lib.ListN.{length, drop}
 use lib.Seq.{take-append-seam}
-use Rattle.order.specs.Outcome.{good, andThen, isGood}
-use Rattle.order.specs.Sweep.{done}
-use Rattle.order.proofs.OutcomeLaws.{check-true, then-good}
-use Rattle.order.proofs.SweepLaws.{good-is}
+use Rattle.refusals.specs.Outcome.{good, andThen, isGood}
+use Rattle.refusals.specs.Sweep.{done}
+use Rattle.refusals.proofs.OutcomeLaws.{check-true, then-good}
+use Rattle.refusals.proofs.SweepLaws.{good-is}
 use Rattle.plan.specs.declared.Plan.{Plan}
 use Rattle.plan.specs.Stands.{standsOf}
 use Rattle.plan.proofs.StandLaws.{stands-tests}

@@ -6,10 +6,10 @@ use native.Mathlib.Omega.{arith}
 use lib.Dec.{eqb, leb}
 use lib.ListN.{length}
 use borrow.Author.Tests.{leb-true, le-leb, lt-leb}
-use Rattle.order.specs.declared.Refusal.{Refusal}
-use Rattle.order.specs.Outcome.{good, refused, check, refusalOf, isGood}
-use Rattle.order.proofs.Bools.{both-true, both-second, both-off, both-off-second}
-use Rattle.order.proofs.OutcomeLaws.{Proper, proper-good, proper-check, check-true, check-false, check-first, check-rest}
+use Rattle.refusals.specs.declared.Refusal.{Refusal}
+use Rattle.refusals.specs.Outcome.{good, refused, check, refusalOf, isGood}
+use Rattle.refusals.proofs.Bools.{both-true, both-second, both-off, both-off-second}
+use Rattle.refusals.proofs.OutcomeLaws.{Proper, proper-good, proper-check, check-true, check-false, check-first, check-rest}
 use Rattle.plan.specs.declared.Mode.{Mode}
 use Rattle.plan.specs.declared.Mode.the-variants.{Lines, Fillets, Dubins}
 use Rattle.plan.specs.Limits.{mostPoints}

@@ -4,8 +4,9 @@ use mathlib.Core.List.{List}
 use Prim.Native.Nat.{ℕ, _-_}
 use lib.Dec.{eqb, leb, ltb}
 use lib.ListN.{length, getD}
-use Rattle.order.specs.Outcome.{Outcome, good, check}
-use Rattle.order.specs.Sweep.{Done, done, both}
+use Rattle.refusals.specs.Numbers.{fileTooShort, noMark, noVersion, noSerial, wrongArea}
+use Rattle.refusals.specs.Outcome.{Outcome, good, check}
+use Rattle.refusals.specs.Sweep.{Done, done, both}
 use Rattle.records.specs.Numbers.{u16At, u32At}
 use Rattle.records.specs.Gather.{headerLength}
 
@@ -32,8 +33,8 @@ areaFits f = both (eqb (areaOf f) (length f - headerLength)) (leb (areaOf f) mos
 -- 1: "under 11 bytes", 2: "mark differs", 3: "file version 0", 4: "serial 0", and 5
 unfoldable pub headerOf : List ℕ → Outcome Done
 headerOf f =
-    check (leb headerLength (length f)) 1
-    (check (markedOf f) 2
-    (check (ltb 0 (versionOf f)) 3
-    (check (ltb 0 (serialOf f)) 4
-    (check (areaFits f) 5 (good done)))))
+    check (leb headerLength (length f)) fileTooShort
+    (check (markedOf f) noMark
+    (check (ltb 0 (versionOf f)) noVersion
+    (check (ltb 0 (serialOf f)) noSerial
+    (check (areaFits f) wrongArea (good done)))))

@@ -3,8 +3,9 @@
 use mathlib.Core.List.{List}
 use Prim.Native.Nat.{ℕ}
 use lib.ListN.{length, drop}
-use Rattle.order.specs.Outcome.{Outcome, good, refused, check, andThen}
-use Rattle.order.specs.Sweep.{Done}
+use Rattle.refusals.specs.Numbers.{noVersion}
+use Rattle.refusals.specs.Outcome.{Outcome, good, refused, check, andThen}
+use Rattle.refusals.specs.Sweep.{Done}
 use Rattle.plan.specs.Places.{pointsAt, coursesAt}
 use Rattle.plan.specs.Rules.{modeOf, rulesOn}
 use Rattle.plan.specs.Loaded.{planOf}
@@ -43,7 +44,7 @@ bodyOf r f = andThen (partsOf r f) (λ (a : Parts). andThen (settleOf (recordsOf
 
 -- 3: "reader .. asked for a version outside 1..3"
 unfoldable pub loadOf : ℕ → List ℕ → Outcome State
-loadOf r f = check (between 1 newest r) 3 (andThen (headerOf f) (λ (_ : Done). bodyOf r f))
+loadOf r f = check (between 1 newest r) noVersion (andThen (headerOf f) (λ (_ : Done). bodyOf r f))
 
 -- as the struct that `load` answers: "A refused load gives number, place and the empty state"
 unfoldable pub loadedOf : Outcome State → Loaded

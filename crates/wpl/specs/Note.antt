@@ -6,20 +6,20 @@ use Prim.Native.Nat.{ℕ, _-_, _≤_}
 use lib.Dec.{eqb}
 use lib.ListN.{take, drop}
 use Rattle.integers.specs.Choose.{choose}
-use Rattle.order.specs.Outcome.{isGood}
-use Rattle.order.specs.Sweep.{both}
+use Rattle.refusals.specs.Outcome.{isGood}
+use Rattle.refusals.specs.Sweep.{both}
 use Rattle.records.specs.Walk.{Walked, end, short, more}
-use Rattle.records.specs.Kinds.{newest}
+use Rattle.records.specs.Kinds.{newest, noteRow}
 use Rattle.wpl.specs.declared.Span.{Span}
 use Rattle.wpl.specs.declared.Span.the-variants.{At, Nothing}
 use Rattle.wpl.specs.Load.{recordsOf, loadOf}
 
 -- whether a record of kind k is the note that is looked for, n notes on, and how many notes on it is after one that is not
 unfoldable pub wantedOf : ℕ → ℕ → Bool
-wantedOf k n = both (eqb k 128) (eqb n 1)
+wantedOf k n = both (eqb k (noteRow .kind)) (eqb n 1)
 
 unfoldable pub leftOf : ℕ → ℕ → ℕ
-leftOf k n = choose (eqb k 128) (n - 1) n
+leftOf k n = choose (eqb k (noteRow .kind)) (n - 1) n
 
 -- the body of the n-th note of some records, from 1
 unfoldable pub noteIn : ℕ → Walked → List ℕ

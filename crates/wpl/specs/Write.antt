@@ -4,30 +4,31 @@ use mathlib.Core.List.{List}
 use Prim.Native.Nat.{ℕ}
 use lib.Dec.{leb}
 use lib.ListN.{length}
-use Rattle.order.specs.Outcome.{Outcome, good, refused, check}
+use Rattle.refusals.specs.Numbers.{noVersion, tooNew, noState, noRoom}
+use Rattle.refusals.specs.Outcome.{Outcome, good, refused, check}
 use Rattle.plan.specs.declared.Mode.{Mode}
 use Rattle.plan.specs.declared.Mode.the-variants.{Lines, Fillets, Dubins}
 use Rattle.manager.specs.declared.State.{State}
 use Rattle.manager.specs.State.{validOf}
-use Rattle.records.specs.Kinds.{newest, between}
+use Rattle.records.specs.Kinds.{newest, pointRow, radiusRow, courseRow, between}
 use Rattle.buffers.specs.Splice.{over}
 use Rattle.writer.specs.File.{fileOf}
 use Rattle.wpl.specs.declared.Written.{Written}
 
--- the least version that can carry a plan: a radius is since 2, a course since 3
+-- the least version that can carry a plan: the first that has the newest kind of its records
 unfoldable pub carriedSince : Mode → ℕ
-carriedSince Lines = 1
-carriedSince Fillets = 2
-carriedSince Dubins = 3
+carriedSince Lines = pointRow .since
+carriedSince Fillets = radiusRow .since
+carriedSince Dubins = courseRow .since
 
 -- the file's bytes, for a buffer of a length. 3: "writer asked for a version outside 1..3"; 7: "writer: the plan needs a higher version"; 16:
 -- "the writer's buffer is too short"
 unfoldable pub writeOf : State → ℕ → ℕ → Outcome (List ℕ)
 writeOf s version room =
-    check (validOf s) 14
-    (check (between 1 newest version) 3
-    (check (leb (carriedSince (s .plan .mode)) version) 7
-    (check (leb (length (fileOf version (s .plan))) room) 16 (good (fileOf version (s .plan))))))
+    check (validOf s) noState
+    (check (between 1 newest version) noVersion
+    (check (leb (carriedSince (s .plan .mode)) version) tooNew
+    (check (leb (length (fileOf version (s .plan))) room) noRoom (good (fileOf version (s .plan))))))
 
 -- the answer
 unfoldable pub writtenOf : Outcome (List ℕ) → Written

@@ -10,7 +10,7 @@ use records::VERSION;
 ghost use mathlib.Core.Path.{_≡_};
 ghost use Prim.Native.Nat.{_≤_};
 ghost use lib.ListN.{length};
-ghost use Rattle.order.specs.Outcome.{good, refused, refusalOf};
+ghost use Rattle.refusals.specs.Outcome.{good, refused, refusalOf};
 ghost use Rattle.manager.specs.declared.State.{State};
 ghost use Rattle.records.specs.Kinds.{Parts};
 ghost use Rattle.records.specs.Gather.{headerLength, InRange};
@@ -26,21 +26,6 @@ pub const NEWEST: u32 = 3;
 
 // The most bytes after the header.
 pub const MOST_AREA: usize = 8192;
-
-// Refusals (document 01, "Refusal numbers and their order").
-const TOO_SHORT: u8 = 1;
-
-const NO_MARK: u8 = 2;
-
-const NO_VERSION: u8 = 3;
-
-const NO_SERIAL: u8 = 4;
-
-const WRONG_AREA: u8 = 5;
-
-const OLD_VERSION: u8 = 7;
-
-const NO_ROOM: u8 = 16;
 
 // A state, or a refusal with its place and the empty state.
 pub struct Loaded {
@@ -92,21 +77,21 @@ fn header(file: &[u8]) -> u8
     ensures { λ r. ⌜ refusalOf (headerOf (now (file .entry))) ≡ record { number = r; place = 0 } ⌝ }
 {
     if file.len() < records::HEADER {
-        return TOO_SHORT;
+        return refusals::FILE_TOO_SHORT;
     }
     if !marked(file) {
-        return NO_MARK;
+        return refusals::NO_MARK;
     }
     if records::u16_at(file, VERSION) == 0 {
-        return NO_VERSION;
+        return refusals::NO_VERSION;
     }
     if records::u32_at(file, SERIAL) == 0 {
-        return NO_SERIAL;
+        return refusals::NO_SERIAL;
     }
     if area_fits(file) {
         return 0;
     }
-    WRONG_AREA
+    refusals::WRONG_AREA
 }
 
 // A refused load.
@@ -153,10 +138,10 @@ pub fn load(file: &[u8], reader: u32) -> Loaded
     ensures { λ r. ⌜ r ≡ loadedOf (loadOf reader (now (file .entry))) ⌝ }
 {
     if reader < 1 {
-        return refuse(NO_VERSION, 0);
+        return refuse(refusals::NO_VERSION, 0);
     }
     if NEWEST < reader {
-        return refuse(NO_VERSION, 0);
+        return refuse(refusals::NO_VERSION, 0);
     }
     let number = header(file);
     if number != 0 {
@@ -171,14 +156,14 @@ pub fn load(file: &[u8], reader: u32) -> Loaded
     finish(serial, gathered)
 }
 
-// The least version that can carry a plan of a mode.
+// The least version that can carry a plan of a mode: the first that has the newest kind of its records.
 fn carried_since(mode: Mode) -> u32
     ensures { λ r. ⌜ r ≡ carriedSince mode ⌝ }
 {
     match mode {
-        Mode::Lines => 1,
-        Mode::Fillets => 2,
-        Mode::Dubins => 3,
+        Mode::Lines => records::POINT.since as u32,
+        Mode::Fillets => records::RADIUS.since as u32,
+        Mode::Dubins => records::COURSE.since as u32,
     }
 }
 
@@ -187,21 +172,21 @@ fn write_refusal(state: State, version: u32, room: usize) -> u8
     ensures { λ r. ⌜ refusalOf (writeOf state version room) ≡ record { number = r; place = 0 } ⌝ }
 {
     if !manager::valid(state) {
-        return manager::NO_STATE;
+        return refusals::NO_STATE;
     }
     if version < 1 {
-        return NO_VERSION;
+        return refusals::NO_VERSION;
     }
     if NEWEST < version {
-        return NO_VERSION;
+        return refusals::NO_VERSION;
     }
     let plan = state.plan;
     let mode = plan.mode;
     if version < carried_since(mode) {
-        return OLD_VERSION;
+        return refusals::TOO_NEW;
     }
     if room < writer::file_length(plan) {
-        return NO_ROOM;
+        return refusals::NO_ROOM;
     }
     0
 }
@@ -233,7 +218,7 @@ pub fn write(state: State, version: u32, file: &mut [u8]) -> Written
 fn wanted(kind: u8, left: usize) -> bool
     ensures { λ r. ⌜ r ≡ wantedOf kind left ⌝ }
 {
-    if kind == records::NOTE_KIND {
+    if kind == records::NOTE.kind {
         return left == 1;
     }
     false
@@ -243,7 +228,7 @@ fn wanted(kind: u8, left: usize) -> bool
 fn left_after(kind: u8, left: usize) -> usize
     ensures { λ r. ⌜ r ≡ leftOf kind left ⌝ }
 {
-    if kind == records::NOTE_KIND {
+    if kind == records::NOTE.kind {
         if left == 0 {
             return 0;
         }

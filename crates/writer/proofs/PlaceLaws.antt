@@ -10,7 +10,7 @@ use lib.ListN.{length, take, drop, getD, length-append, length-take, length-map,
 use lib.Seq.{length-take-le, drop-cons, getD-take}
 use borrow.Author.Tests.{ltb-true, ltb-false}
 use Rattle.integers.specs.Choose.{choose}
-use Rattle.order.proofs.Bools.{by-bool}
+use Rattle.refusals.proofs.Bools.{by-bool}
 use Rattle.plane.specs.declared.Point.{Point}
 use Rattle.plan.specs.declared.Mode.{Mode}
 use Rattle.plan.specs.declared.Mode.the-variants.{Lines, Fillets, Dubins}

@@ -10,7 +10,7 @@ use Rattle.plan.specs.declared.Plan.{Plan}
 use Rattle.plan.specs.Stands.{givenOf}
 use Rattle.records.specs.Numbers.{u16Bytes, u32Bytes}
 use Rattle.records.specs.Walk.{Walked, end, more, flat}
-use Rattle.records.specs.Kinds.{pointBytes}
+use Rattle.records.specs.Kinds.{pointRow, radiusRow, courseRow, pointBytes}
 
 -- "Header, 11 bytes: 57 50 4C ("WPL"), version u16, serial u32, area length u16", before a record area
 unfoldable pub withHeader : ℕ → ℕ → List ℕ → List ℕ
@@ -20,12 +20,12 @@ withHeader version serial area =
 -- each point followed by its course if it has one
 unfoldable pub pointRecords : List Point → List ℕ → Walked
 pointRecords [] cs = end
-pointRecords (p ∷ ps) [] = more 1 (pointBytes p) (pointRecords ps [])
-pointRecords (p ∷ ps) (c ∷ cs) = more 1 (pointBytes p) (more 3 (u16Bytes c) (pointRecords ps cs))
+pointRecords (p ∷ ps) [] = more (pointRow .kind) (pointBytes p) (pointRecords ps [])
+pointRecords (p ∷ ps) (c ∷ cs) = more (pointRow .kind) (pointBytes p) (more (courseRow .kind) (u16Bytes c) (pointRecords ps cs))
 
 -- radius if any: a radius of 0 stands for none
 unfoldable pub radiusRecord : ℕ → Walked → Walked
-radiusRecord R rest = choose (eqb R 0) rest (more 2 (u16Bytes R) rest)
+radiusRecord R rest = choose (eqb R 0) rest (more (radiusRow .kind) (u16Bytes R) rest)
 
 -- the points of a plan, and its courses, which the first points have
 abbrev pub pointsOf : Plan → List Point

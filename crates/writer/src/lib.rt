@@ -2,20 +2,18 @@
 use plan::Plan;
 use plane::Point;
 use records::AREA;
-use records::COURSE_KIND;
+use records::COURSE;
 use records::HEAD;
 use records::HEADER;
 use records::MARK;
-use records::POINT_KIND;
-use records::RADIUS_KIND;
+use records::POINT;
+use records::RADIUS;
 use records::SERIAL;
 use records::VERSION;
 ghost use mathlib.Core.Path.{_≡_};
 ghost use mathlib.Core.List.{[], _∷_};
 ghost use Prim.Native.Nat.{ℕ, _+_, _≤_, _<_};
 ghost use lib.ListN.{length};
-ghost use mir.Syntax.{w32};
-ghost use mir.Val.{ofZ};
 ghost use Rattle.plan.specs.Limits.{mostPoints};
 ghost use Rattle.records.specs.Numbers.{u16Bytes, u32Bytes};
 ghost use Rattle.records.specs.Gather.{headerLength};
@@ -25,14 +23,16 @@ ghost use Rattle.buffers.specs.Splice.{over, splice};
 ghost use Rattle.writer.specs.File.{planRecords, fileOf};
 ghost use Rattle.writer.specs.Pieces.{mark, headerBytes, recordBytes, radiusBytes, placeBytes, placesBytes};
 
-// The lengths of the bodies, and of the records with them.
-const POINT_BODY: u8 = 12;
+// The lengths of the bodies, and of the records with them. A radius and a course are each a value of two bytes.
+const POINT_BODY: u8 = POINT.high as u8;
 
-const VALUE_BODY: u8 = 2;
+const VALUE_BODY: u8 = COURSE.high as u8;
 
-const POINT_RECORD: usize = 14;
+const POINT_RECORD: usize = HEAD + POINT.high;
 
-const VALUE_RECORD: usize = 4;
+const RADIUS_RECORD: usize = HEAD + RADIUS.high;
+
+const COURSE_RECORD: usize = HEAD + COURSE.high;
 
 // Where the lower half of a number of four bytes stands, and two numbers of a point.
 const LOWER: usize = 2;
@@ -45,19 +45,6 @@ const DOWN: usize = 8;
 const ONE_BYTE: u16 = 256;
 
 const TWO_BYTES: u32 = 65536;
-
-// The bits of -1.
-const MINUS_ONE: u32 = 4294967295;
-
-// Two's complement.
-pub fn bits(z: i32) -> u32
-    ensures { λ r. ⌜ r ≡ ofZ w32 z ⌝ }
-{
-    if 0 <= z {
-        return z as u32;
-    }
-    MINUS_ONE - ((-1 - z) as u32)
-}
 
 // A number as two bytes, big-endian, at the front of a part.
 fn put_u16(value: u16, part: &mut [u8])
@@ -82,9 +69,9 @@ fn put_point(point: Point, part: &mut [u8])
     requires { ⌜ 12 ≤ length (now part) ⌝ }
     ensures { λ _. ⌜ now (part .exit) ≡ over (pointBytes point) (now (part .entry)) ⌝ }
 {
-    put_u32(bits(point.north), part);
-    put_u32(bits(point.east), &mut part[EAST..]);
-    put_u32(bits(point.down), &mut part[DOWN..]);
+    put_u32(integers::unsigned(point.north), part);
+    put_u32(integers::unsigned(point.east), &mut part[EAST..]);
+    put_u32(integers::unsigned(point.down), &mut part[DOWN..]);
 }
 
 // The mark, at the front of a file.
@@ -122,7 +109,7 @@ fn put_point_record(point: Point, at: usize, file: &mut [u8])
     requires { ⌜ at + 14 ≤ length (now file) ⌝ }
     ensures { λ _. ⌜ now (file .exit) ≡ splice at (recordBytes 1 (pointBytes point)) (now (file .entry)) ⌝ }
 {
-    put_head(POINT_KIND, POINT_BODY, at, file);
+    put_head(POINT.kind, POINT_BODY, at, file);
     let body = at + HEAD;
     put_point(point, &mut file[body..]);
 }
@@ -146,8 +133,8 @@ fn put_radius(radius: u16, file: &mut [u8]) -> usize
     if radius == 0 {
         return HEADER;
     }
-    put_value_record(RADIUS_KIND, radius, HEADER, file);
-    HEADER + VALUE_RECORD
+    put_value_record(RADIUS.kind, radius, HEADER, file);
+    HEADER + RADIUS_RECORD
 }
 
 // A point, and its course if it has one. The answer is the offset behind them.
@@ -159,8 +146,8 @@ fn put_place(point: Point, aimed: bool, course: u16, at: usize, file: &mut [u8])
     put_point_record(point, at, file);
     let next = at + POINT_RECORD;
     if aimed {
-        put_value_record(COURSE_KIND, course, next, file);
-        return next + VALUE_RECORD;
+        put_value_record(COURSE.kind, course, next, file);
+        return next + COURSE_RECORD;
     }
     next
 }
@@ -190,7 +177,7 @@ fn radius_length(radius: u16) -> usize
     if radius == 0 {
         return 0;
     }
-    VALUE_RECORD
+    RADIUS_RECORD
 }
 
 // How many bytes the records of a plan take. They fit the header's two bytes.
@@ -200,7 +187,7 @@ fn area_length(plan: Plan) -> usize
 {
     let mode = plan.mode;
     let count = plan.count;
-    radius_length(plan.radius) + POINT_RECORD * count + VALUE_RECORD * plan::given_of(mode, count)
+    radius_length(plan.radius) + POINT_RECORD * count + COURSE_RECORD * plan::given_of(mode, count)
 }
 
 // How many bytes the file of a plan has, at any version.

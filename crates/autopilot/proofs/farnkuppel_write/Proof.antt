@@ -4,7 +4,7 @@ use mathlib.Core.List.{List, [], _∷_}
 use Prim.Native.Nat.{ℕ}
 use borrow.Author.Tests.{not-true, not-false}
 use borrow.Author.Needs.{needs}
-use Rattle.order.specs.Outcome.{Outcome}
+use Rattle.refusals.specs.Outcome.{Outcome}
 use Rattle.buffers.specs.Splice.{over}
 use Rattle.words.specs.Words.{wordOf}
 use Rattle.wpl.specs.Write.{writtenOf, bufferOf}

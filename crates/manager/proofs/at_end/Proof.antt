@@ -2,7 +2,7 @@
 use mathlib.Core.Path.{sym, ap, _∙_}
 use lib.Dec.{eqb}
 use borrow.Author.Needs.{needs}
-use Rattle.order.specs.Sweep.{both}
+use Rattle.refusals.specs.Sweep.{both}
 use Rattle.manager.specs.State.{atEnd}
 use Rattle.manager.proofs.at_end.Statement.{statement}
 use Rattle.manager.proofs.at_end.Tie as tie

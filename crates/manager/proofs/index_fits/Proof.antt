@@ -3,7 +3,7 @@ use mathlib.Core.Path.{_≡_, sym, ap, _∙_}
 use lib.Dec.{leb}
 use borrow.Author.Tests.{le-leb, lt-leb}
 use borrow.Author.Needs.{needs}
-use Rattle.order.specs.Sweep.{both}
+use Rattle.refusals.specs.Sweep.{both}
 use Rattle.manager.specs.State.{indexFits}
 use Rattle.manager.proofs.index_fits.Statement.{statement}
 use Rattle.manager.proofs.index_fits.Tie as tie

@@ -1,7 +1,7 @@
 -- `placed` decides whether index, phase and finished are such as the mode allows. Assumes nothing.
 use mathlib.Core.Path.{_≡_, sym, ap, _∙_}
 use borrow.Author.Needs.{needs}
-use Rattle.order.specs.Sweep.{both}
+use Rattle.refusals.specs.Sweep.{both}
 use Rattle.manager.specs.State.{placedOf}
 use Rattle.manager.proofs.placed.Statement.{statement}
 use Rattle.manager.proofs.placed.Tie as tie

@@ -1,8 +1,8 @@
 -- `valid` decides refusal 14. Assumes nothing.
 use mathlib.Core.Path.{_≡_, refl, sym, ap, _∙_}
 use borrow.Author.Needs.{needs}
-use Rattle.order.specs.Sweep.{both}
-use Rattle.order.proofs.Bools.{both-on, both-off}
+use Rattle.refusals.specs.Sweep.{both}
+use Rattle.refusals.proofs.Bools.{both-on, both-off}
 use Rattle.plan.specs.Stands.{standsOf}
 use Rattle.manager.specs.State.{placedOf, validOf}
 use Rattle.manager.proofs.StateLaws.{valid-means}

@@ -1,7 +1,7 @@
 -- `course_places_fit` decides whether the course of every place fits. Assumes nothing.
 use mathlib.Core.Path.{sym, _∙_}
 use borrow.Author.Needs.{needs}
-use Rattle.order.proofs.Bools.{both-on, both-off}
+use Rattle.refusals.proofs.Bools.{both-on, both-off}
 use Rattle.plan.proofs.StandLaws.{courses-parts, givenFit, otherFit}
 use Rattle.plan.proofs.course_places_fit.Statement.{statement}
 use Rattle.plan.proofs.course_places_fit.Tie as tie

@@ -1,7 +1,7 @@
 -- `geometry` asks all pairs, then all corners, then all legs. Assumes nothing.
 use mathlib.Core.Path.{sym, ap, _∙_}
 use borrow.Author.Needs.{needs}
-use Rattle.order.specs.Outcome.{refusalOf}
+use Rattle.refusals.specs.Outcome.{refusalOf}
 use Rattle.plan.specs.Places.{pointOf, courseOf}
 use Rattle.plan.proofs.RuleLaws.{geometry-pairs, geometry-rest, same-number}
 use Rattle.plan.proofs.geometry.Statement.{statement}

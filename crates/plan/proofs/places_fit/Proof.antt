@@ -3,7 +3,7 @@ use mathlib.Core.Path.{sym, ap, _∙_}
 use mathlib.Core.Bool.{false}
 use native.Mathlib.Omega.{arith}
 use borrow.Author.Needs.{needs}
-use Rattle.order.proofs.Bools.{both-on, both-off}
+use Rattle.refusals.proofs.Bools.{both-on, both-off}
 use Rattle.plan.specs.Stands.{givenOf, placesFit}
 use Rattle.plan.proofs.LimitLaws.{told}
 use Rattle.plan.proofs.StandLaws.{places-mean, places-parts, pointsFit, coursesFit}

@@ -4,8 +4,8 @@ use mathlib.Core.Bool.{Bool}
 use Prim.Native.Nat.{ℕ, _-_}
 use native.Mathlib.Omega.{arith}
 use borrow.Author.Needs.{needs}
-use Rattle.order.specs.Sweep.{every}
-use Rattle.order.proofs.SweepLaws.{every-stop, every-next, every-hit}
+use Rattle.refusals.specs.Sweep.{every}
+use Rattle.refusals.proofs.SweepLaws.{every-stop, every-next, every-hit}
 use Rattle.plan.specs.declared.Plan.{Plan}
 use Rattle.plan.specs.Limits.{insideOf}
 use Rattle.plan.specs.Places.{pointOf}

@@ -1,7 +1,7 @@
 -- `rules` asks 8, then 9, then the geometry. Assumes nothing.
 use mathlib.Core.Path.{sym, ap, _∙_}
 use borrow.Author.Needs.{needs}
-use Rattle.order.specs.Outcome.{refusalOf}
+use Rattle.refusals.specs.Outcome.{refusalOf}
 use Rattle.plan.specs.Places.{pointOf, courseOf}
 use Rattle.plan.proofs.RuleLaws.{rules-few, rules-many, rules-courses, rules-geometry}
 use Rattle.plan.proofs.rules.Statement.{statement}

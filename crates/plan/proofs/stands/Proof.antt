@@ -5,8 +5,8 @@ use Prim.Native.Nat.{ℕ}
 use native.Mathlib.Omega.{arith}
 use lib.Dec.{eqb}
 use borrow.Author.Needs.{needs}
-use Rattle.order.specs.Outcome.{refusalOf}
-use Rattle.order.proofs.Bools.{clash}
+use Rattle.refusals.specs.Outcome.{refusalOf}
+use Rattle.refusals.proofs.Bools.{clash}
 use Rattle.plan.specs.Limits.{radiusFits}
 use Rattle.plan.specs.Stands.{placesFit, rulesOf, standsOf}
 use Rattle.plan.proofs.LimitLaws.{told}

@@ -9,9 +9,9 @@ use native.Mathlib.Omega.{arith}
 use lib.Dec.{eqb, ltb}
 use borrow.Author.Needs.{needs}
 use borrow.Author.Tests.{lt-ltb, le-ltb}
-use Rattle.order.specs.Sweep.{every}
-use Rattle.order.proofs.Bools.{both-on}
-use Rattle.order.proofs.SweepLaws.{passing, passing-next, passing-all}
+use Rattle.refusals.specs.Sweep.{every}
+use Rattle.refusals.proofs.Bools.{both-on}
+use Rattle.refusals.proofs.SweepLaws.{passing, passing-next, passing-all}
 use Rattle.plan.specs.Places.{coursesAt}
 use Rattle.plan.proofs.values_below.Statement.{statement}
 use Rattle.plan.proofs.values_below.Tie as tie

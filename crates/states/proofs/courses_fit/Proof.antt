@@ -6,9 +6,9 @@ use native.Mathlib.Omega.{arith}
 use lib.Dec.{eqb, ltb}
 use borrow.Author.Tests.{ltb-true, ltb-false, eq-eqb, ne-eqb}
 use borrow.Author.Needs.{needs}
-use Rattle.order.specs.Sweep.{every}
-use Rattle.order.proofs.Bools.{both-on}
-use Rattle.order.proofs.SweepLaws.{passing, passing-next, passing-all}
+use Rattle.refusals.specs.Sweep.{every}
+use Rattle.refusals.proofs.Bools.{both-on}
+use Rattle.refusals.proofs.SweepLaws.{passing, passing-next, passing-all}
 use Rattle.plan.specs.Limits.{mostPoints}
 use Rattle.states.specs.Stored.{courseAt, courseStored}
 use Rattle.states.proofs.courses_fit.Statement.{statement}

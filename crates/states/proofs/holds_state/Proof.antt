@@ -2,7 +2,7 @@
 use mathlib.Core.Path.{sym, _∙_}
 use borrow.Author.Tests.{lt-ltb, le-ltb, le-leb, lt-leb}
 use borrow.Author.Needs.{needs}
-use Rattle.order.proofs.Bools.{both-on, both-off}
+use Rattle.refusals.proofs.Bools.{both-on, both-off}
 use Rattle.states.specs.Stored.{holdsState}
 use Rattle.states.proofs.holds_state.Statement.{statement}
 use Rattle.states.proofs.holds_state.Tie as tie

@@ -7,14 +7,14 @@ use Rattle.states.specs.Stored.{pointWords}
 use Rattle.states.proofs.put_point.Statement.{statement}
 use Rattle.states.proofs.put_point.Tie as tie
 
-bits-requires : tie.Need-bits-requires
-bits-requires c κs = search needs
+unsigned-requires : tie.Need-unsigned-requires
+unsigned-requires c κs = search needs
 
-bits-requires-2 : tie.Need-bits-requires-2
-bits-requires-2 c κs = search needs
+unsigned-requires-2 : tie.Need-unsigned-requires-2
+unsigned-requires-2 c κs = search needs
 
-bits-requires-3 : tie.Need-bits-requires-3
-bits-requires-3 c κs = search needs
+unsigned-requires-3 : tie.Need-unsigned-requires-3
+unsigned-requires-3 c κs = search needs
 
 put-three-requires : tie.Need-put-three-requires
 put-three-requires c κs = search needs
@@ -33,9 +33,9 @@ returns c =
     let kn : toZ w32 (ofZ w32 (a .north)) ≡ a .north = search needs in
     let ke : toZ w32 (ofZ w32 (a .east)) ≡ a .east = search needs in
     let kd : toZ w32 (ofZ w32 (a .down)) ≡ a .down = search needs in
-    rw (n .bits .ensures ∙ ap (ofZ w32) kn, e .bits2 .ensures ∙ ap (ofZ w32) ke, d .bits3 .ensures ∙ ap (ofZ w32) kd) at (p .put-three .ensures)
+    rw (n .unsigned .ensures ∙ ap (ofZ w32) kn, e .unsigned2 .ensures ∙ ap (ofZ w32) ke, d .unsigned3 .ensures ∙ ap (ofZ w32) kd) at (p .put-three .ensures)
 
 pub put-point-spec : {M : Type 1} → statement M
 put-point-spec =
     tie.close
-    (tie.spec bits-requires bits-requires-2 bits-requires-3 put-three-requires same-length returns)
+    (tie.spec unsigned-requires unsigned-requires-2 unsigned-requires-3 put-three-requires same-length returns)

@@ -2,7 +2,7 @@
 use mathlib.Core.Path.{sym, ap, _∙_}
 use borrow.Author.Tests.{not-true, not-false}
 use borrow.Author.Needs.{needs}
-use Rattle.order.specs.Outcome.{refusalOf}
+use Rattle.refusals.specs.Outcome.{refusalOf}
 use Rattle.wpl.specs.Header.{versionOf, serialOf}
 use Rattle.wpl.proofs.LoadLaws.{too-short, unmarked, unversioned, unnumbered, misfit, passes}
 use Rattle.wpl.proofs.header.Statement.{statement}

@@ -4,7 +4,7 @@ use mathlib.Core.List.{List}
 use Prim.Native.Nat.{ℕ}
 use native.Mathlib.Omega.{arith}
 use borrow.Author.Needs.{needs}
-use Rattle.order.specs.Outcome.{Outcome}
+use Rattle.refusals.specs.Outcome.{Outcome}
 use Rattle.writer.proofs.PlaceLaws.{unmapped}
 use Rattle.wpl.specs.declared.Written.{Written}
 use Rattle.wpl.specs.Write.{writtenOf, bufferOf}

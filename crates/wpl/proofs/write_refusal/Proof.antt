@@ -3,7 +3,7 @@ use mathlib.Core.Path.{sym, ap, _∙_}
 use native.Mathlib.Omega.{arith}
 use borrow.Author.Tests.{not-true, not-false}
 use borrow.Author.Needs.{needs}
-use Rattle.order.specs.Outcome.{refusalOf}
+use Rattle.refusals.specs.Outcome.{refusalOf}
 use Rattle.wpl.proofs.WriteLaws.{not-valid, version-low, version-high, not-carried, no-room, write-passes, count-most}
 use Rattle.wpl.proofs.write_refusal.Statement.{statement}
 use Rattle.wpl.proofs.write_refusal.Tie as tie

@@ -1,7 +1,7 @@
 -- A chain of checks: what passes goes on, the first refusal stands. Assumes nothing.
 use mathlib.Core.Bool.{Bool, true, false}
 use Prim.Native.Nat.{ℕ}
-use Rattle.order.specs.declared.Refusal.{Refusal}
+use Rattle.refusals.specs.declared.Refusal.{Refusal}
 
 -- a value, or a refusal's number and place
 pub data Outcome (A : Type 0) : Type 0 where

@@ -3,7 +3,7 @@ use mathlib.Core.Bool.{Bool, true, false}
 use Prim.Native.Nat.{ℕ, zero, suc, _+_}
 use lib.Dec.{eqb}
 use Rattle.integers.specs.Choose.{choose}
-use Rattle.order.specs.Outcome.{Outcome, good, refused}
+use Rattle.refusals.specs.Outcome.{Outcome, good, refused}
 
 -- what a chain hands on that has no value
 pub data Done : Type 0 where

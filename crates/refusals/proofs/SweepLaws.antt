@@ -7,10 +7,10 @@ use lib.Dec.{eqb, ltb}
 use borrow.Author.Tests.{eqb-true, eqb-false, ne-eqb, lt-ltb, le-ltb}
 use Rattle.integers.specs.Choose.{choose}
 use Rattle.integers.proofs.ChooseLaws.{choose-true, choose-false}
-use Rattle.order.specs.Outcome.{Outcome, good, refused, andThen, refusalOf, isGood}
-use Rattle.order.specs.Sweep.{Done, done, sweep, both, every}
-use Rattle.order.proofs.Bools.{by-bool, clash, both-on, both-off, both-off-second, both-last, both-first, both-second, both-swap, both-both}
-use Rattle.order.proofs.OutcomeLaws.{Proper, then-refusal}
+use Rattle.refusals.specs.Outcome.{Outcome, good, refused, andThen, refusalOf, isGood}
+use Rattle.refusals.specs.Sweep.{Done, done, sweep, both, every}
+use Rattle.refusals.proofs.Bools.{by-bool, clash, both-on, both-off, both-off-second, both-last, both-first, both-second, both-swap, both-both}
+use Rattle.refusals.proofs.OutcomeLaws.{Proper, then-refusal}
 
 -- ---- from place i up to n
 module _ (f : ℕ → ℕ) (n i : ℕ) where

@@ -1,0 +1,62 @@
+// Refusals: their numbers, and the order in which they are found, a chain of checks and sweeps over places (document 01, "Refusal numbers and
+// their order"). The definitions have each number by the same name (specs/Numbers).
+
+// Under 11 bytes.
+pub const FILE_TOO_SHORT: u8 = 1;
+
+// The mark differs.
+pub const NO_MARK: u8 = 2;
+
+// File version 0, or a reader or writer of a version that there is not.
+pub const NO_VERSION: u8 = 3;
+
+// Serial 0.
+pub const NO_SERIAL: u8 = 4;
+
+// The area length differs from the bytes after the header, or is too long.
+pub const WRONG_AREA: u8 = 5;
+
+// A record is cut short, or wrong in its length, value, position or version.
+pub const WRONG_RECORD: u8 = 6;
+
+// A record too new for the reader; a plan too new for the version that is written.
+pub const TOO_NEW: u8 = 7;
+
+// Too few points, or too many.
+pub const POINT_COUNT: u8 = 8;
+
+// A course without a radius, or courses at some points only.
+pub const COURSE_COUNT: u8 = 9;
+
+// Neighbouring points equal in north and east.
+pub const EQUAL_NEIGHBOURS: u8 = 10;
+
+// Legs exactly opposite; fillets: too sharp a turn.
+pub const SHARP_CORNER: u8 = 11;
+
+// A leg too short for its arcs.
+pub const SHORT_LEG: u8 = 12;
+
+// A fix that is no number, or too far away.
+pub const NO_POSITION: u8 = 13;
+
+// A state that breaks a limit or a rule.
+pub const NO_STATE: u8 = 14;
+
+// The named serial isn't the state's.
+pub const OTHER_SERIAL: u8 = 15;
+
+// The writer's buffer is too short.
+pub const NO_ROOM: u8 = 16;
+
+// No Dubins case exists for a leg.
+pub const NO_CASE: u8 = 17;
+
+// A slice that is lent too short, or lists that differ in length. It is none of document 01's numbers.
+pub const MISFIT: u8 = 100;
+
+// A refusal: its number, 0 for none, and its place.
+pub struct Refusal {
+    pub number: u8,
+    pub place: usize,
+}
