@@ -14,7 +14,7 @@
 #define TURN 0.6              /* radians a second, at most */
 #define FIXES_A_SECOND 10
 #define MOST_SECONDS 3600
-#define MOST_FILE 8204        /* one byte more than a plan file can have */
+#define MOST_FILE (FARNKUPPEL_FILE_BYTES + 1) /* so that a file that is too long is seen to be */
 
 static const double circle = 6.283185307179586;
 
@@ -48,11 +48,11 @@ static void move(struct aircraft *plane, uint32_t wanted)
 }
 
 /* Over the first point, heading for the second. Points stand in the state's words in decimetres. */
-static struct aircraft over_first_point(const uint32_t *state)
+static struct aircraft over_first_point(const int32_t *state)
 {
-    const int32_t *points = (const int32_t *)(state + FARNKUPPEL_STATE_POINTS);
-    struct aircraft plane = {points[0] / 10.0, points[1] / 10.0, points[2] / 10.0, 0};
-    plane.heading = atan2(points[4] - points[1], points[3] - points[0]);
+    const int32_t *norths = state + FARNKUPPEL_STATE_NORTHS, *easts = state + FARNKUPPEL_STATE_EASTS;
+    struct aircraft plane = {norths[0] / 10.0, easts[0] / 10.0, state[FARNKUPPEL_STATE_DOWNS] / 10.0, 0};
+    plane.heading = atan2(easts[1] - easts[0], norths[1] - norths[0]);
     return plane;
 }
 
@@ -64,10 +64,10 @@ static void show(unsigned seconds, const struct aircraft *plane, const uint32_t 
 }
 
 /* Until the manager says finished, or refuses. */
-static int follow(uint32_t *state)
+static int follow(int32_t *state)
 {
     struct aircraft plane = over_first_point(state);
-    uint32_t serial = state[FARNKUPPEL_STATE_SERIAL];
+    uint32_t serial = (uint32_t)state[FARNKUPPEL_STATE_SERIAL];
     uint32_t answer[FARNKUPPEL_ANSWER_WORDS] = {0};
     float command[FARNKUPPEL_COMMAND_NUMBERS];
 
@@ -92,9 +92,13 @@ static int follow(uint32_t *state)
 int main(int count, char **words)
 {
     static uint8_t file[MOST_FILE];
-    uint32_t state[FARNKUPPEL_STATE_WORDS];
+    int32_t state[FARNKUPPEL_STATE_WORDS];
     uint32_t answer[FARNKUPPEL_LOAD_WORDS];
 
+    if (farnkuppel_interface() != FARNKUPPEL_INTERFACE) {
+        fprintf(stderr, "follow: the archive has another interface than its header\n");
+        return 2;
+    }
     FILE *plan = count == 2 ? fopen(words[1], "rb") : NULL;
     if (!plan) {
         fprintf(stderr, count == 2 ? "follow: cannot read the plan\n" : "usage: follow PLAN\n");
@@ -104,7 +108,7 @@ int main(int count, char **words)
     fclose(plan);
 
     if (farnkuppel_load(file, length, FARNKUPPEL_NEWEST, state, FARNKUPPEL_STATE_WORDS, answer, FARNKUPPEL_LOAD_WORDS)) {
-        printf("refused %" PRIu32 " at %" PRIu32 "\n", answer[0], answer[1]);
+        printf("refused %" PRIu32 " at %" PRIu32 "\n", answer[FARNKUPPEL_LOAD_REFUSAL], answer[FARNKUPPEL_LOAD_PLACE]);
         return 1;
     }
     return follow(state);

@@ -16,6 +16,7 @@ void prepare(void)
     state_memory = lent_for(STATE_BYTES + SPARE * WORD);
     answer_memory = lent_for((FARNKUPPEL_ANSWER_WORDS + SPARE) * WORD);
     bytes_memory = lent_for(MOST_ROOM + SPARE);
+    HOLD(farnkuppel_interface() == FARNKUPPEL_INTERFACE);
 }
 
 /* A slice that the manager only reads, and that it left as it was. */
@@ -37,7 +38,7 @@ static void load_once(struct file file, uint32_t reader, size_t spare, uint8_t f
 {
     size_t states = FARNKUPPEL_STATE_WORDS + spare, answers = FARNKUPPEL_LOAD_WORDS + spare;
     uint8_t *bytes = lend_copy(&file_memory, file.bytes, file.length);
-    uint32_t *state = lend(&state_memory, states * WORD, fill);
+    int32_t *state = lend(&state_memory, states * WORD, fill);
     uint32_t *answer = lend(&answer_memory, answers * WORD, fill);
     got->result = farnkuppel_load(bytes, file.length, reader, state, states, answer, answers);
     take_copy(&file_memory, file.bytes, file.length);
@@ -53,7 +54,7 @@ struct load load_of(struct file file, uint32_t reader)
     load_once(file, reader, 0, first, &got);
     load_once(file, reader, SPARE, second, &again);
     HOLD(memcmp(&got, &again, sizeof got) == 0);
-    HOLD(got.result == got.answer[0]);
+    HOLD(got.result == got.answer[FARNKUPPEL_LOAD_REFUSAL]);
     uint8_t *bytes = lend_copy(&file_memory, file.bytes, file.length);
     HOLD(farnkuppel_refusal(bytes, file.length, reader) == got.result);
     take_copy(&file_memory, file.bytes, file.length);
@@ -68,7 +69,7 @@ static void note_once(struct file file, uint32_t number, size_t spare, uint8_t f
     uint32_t *answer = lend(&answer_memory, answers * WORD, fill);
     memset(got, 0, sizeof *got);
     got->result = farnkuppel_note(bytes, file.length, number, note, room, answer, answers);
-    got->length = answer[0];
+    got->length = answer[FARNKUPPEL_NOTE_LENGTH];
     HOLD(got->length <= FARNKUPPEL_NOTE_BYTES);
     take_copy(&file_memory, file.bytes, file.length);
     take_back(&bytes_memory, room, got->length, fill);
@@ -82,15 +83,15 @@ struct note note_of(struct file file, uint32_t number)
     note_once(file, number, 0, first, &got);
     note_once(file, number, SPARE, second, &again);
     HOLD(memcmp(&got, &again, sizeof got) == 0);
-    HOLD(got.result == FARNKUPPEL_NONE);
+    HOLD(got.result == FARNKUPPEL_ACCEPTED);
     return got;
 }
 
-static void fix_once(const uint32_t *from, uint32_t serial, const float *p, size_t spare, uint8_t fill, struct fix *got)
+static void fix_once(const int32_t *from, uint32_t serial, const float *p, size_t spare, uint8_t fill, struct fix *got)
 {
     size_t states = FARNKUPPEL_STATE_WORDS + spare, answers = FARNKUPPEL_ANSWER_WORDS + spare;
     size_t commands = FARNKUPPEL_COMMAND_NUMBERS + spare;
-    uint32_t *state = lend(&state_memory, states * WORD, fill);
+    int32_t *state = lend(&state_memory, states * WORD, fill);
     memcpy(state, from, STATE_BYTES);
     uint32_t *answer = lend(&answer_memory, answers * WORD, fill);
     float *command = lend(&bytes_memory, commands * sizeof(float), fill);
@@ -103,7 +104,7 @@ static void fix_once(const uint32_t *from, uint32_t serial, const float *p, size
     memcpy(got->command, command, sizeof got->command);
 }
 
-struct fix fix_of(const uint32_t *state, uint32_t serial, const float *position)
+struct fix fix_of(const int32_t *state, uint32_t serial, const float *position)
 {
     struct fix got, again;
     fix_once(state, serial, position, 0, first, &got);
@@ -113,31 +114,32 @@ struct fix fix_of(const uint32_t *state, uint32_t serial, const float *position)
     return got;
 }
 
-static void write_once(const uint32_t *from, uint32_t version, size_t room, size_t spare, uint8_t fill, struct written *got)
+static void write_once(const int32_t *from, uint32_t version, size_t room, size_t spare, uint8_t fill, struct written *got)
 {
     size_t answers = FARNKUPPEL_WRITE_WORDS + spare;
-    uint32_t *state = lend_copy(&state_memory, from, STATE_BYTES);
+    int32_t *state = lend_copy(&state_memory, from, STATE_BYTES);
     uint8_t *bytes = lend(&bytes_memory, room, fill);
     uint32_t *answer = lend(&answer_memory, answers * WORD, fill);
     memset(got, 0, sizeof *got);
     got->result = farnkuppel_write(state, FARNKUPPEL_STATE_WORDS, version, bytes, room, answer, answers);
     memcpy(got->answer, answer, sizeof got->answer);
-    HOLD(got->answer[2] <= room);
+    uint32_t length = got->answer[FARNKUPPEL_WRITE_LENGTH];
+    HOLD(length <= room);
     take_copy(&state_memory, from, STATE_BYTES);
-    take_back(&bytes_memory, room, got->answer[2], fill);
+    take_back(&bytes_memory, room, length, fill);
     take_back(&answer_memory, answers * WORD, sizeof got->answer, fill);
-    memcpy(got->bytes, bytes, got->answer[2]);
+    memcpy(got->bytes, bytes, length);
 }
 
-struct written write_of(const uint32_t *state, uint32_t version, size_t room)
+struct written write_of(const int32_t *state, uint32_t version, size_t room)
 {
     struct written got, again;
     write_once(state, version, room, 0, first, &got);
     write_once(state, version, room, SPARE, second, &again);
     HOLD(memcmp(&got, &again, sizeof got) == 0);
-    HOLD(got.result == got.answer[0]);
-    HOLD(got.answer[1] == 0);
-    HOLD((got.answer[2] == 0) == (got.result != FARNKUPPEL_NONE));
+    HOLD(got.result == got.answer[FARNKUPPEL_WRITE_REFUSAL]);
+    HOLD(got.answer[FARNKUPPEL_WRITE_PLACE] == 0);
+    HOLD((got.answer[FARNKUPPEL_WRITE_LENGTH] == 0) == (got.result != FARNKUPPEL_ACCEPTED));
     return got;
 }
 
@@ -153,7 +155,7 @@ struct lengths {
 
 static uint32_t call_short(int call, const uint8_t *file, size_t length, struct lengths n, size_t element)
 {
-    uint32_t *state = lend(&state_memory, n.state * WORD, first);
+    int32_t *state = lend(&state_memory, n.state * WORD, first);
     uint32_t *answer = lend(&answer_memory, n.answer * WORD, first);
     void *bytes = lend(&bytes_memory, n.bytes * element, first);
     uint32_t result = 0;
@@ -181,11 +183,11 @@ void short_slices(struct file file, size_t cut)
         struct lengths short_answer = {states, less(answers[call], cut), lengths[call]};
         struct lengths short_state = {less(states, cut), answers[call], lengths[call]};
         struct lengths short_bytes = {states, answers[call], less(lengths[call], cut)};
-        HOLD(call_short(call, bytes, file.length, short_answer, elements[call]) == FARNKUPPEL_TOO_SHORT);
+        HOLD(call_short(call, bytes, file.length, short_answer, elements[call]) == FARNKUPPEL_REFUSED_MISFIT);
         if (call != 3)
-            HOLD(call_short(call, bytes, file.length, short_state, elements[call]) == FARNKUPPEL_TOO_SHORT);
+            HOLD(call_short(call, bytes, file.length, short_state, elements[call]) == FARNKUPPEL_REFUSED_MISFIT);
         if (call == 1 || call == 3)
-            HOLD(call_short(call, bytes, file.length, short_bytes, elements[call]) == FARNKUPPEL_TOO_SHORT);
+            HOLD(call_short(call, bytes, file.length, short_bytes, elements[call]) == FARNKUPPEL_REFUSED_MISFIT);
     }
     take_copy(&file_memory, file.bytes, file.length);
 }

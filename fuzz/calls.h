@@ -6,8 +6,8 @@
 #include "farnkuppel.h"
 
 #define MOST_FILE 9000  /* more than a plan file can have */
-#define MOST_ROOM 1167  /* the longest file that is written: 64 points with courses */
-#define STATE_BYTES (FARNKUPPEL_STATE_WORDS * sizeof(uint32_t))
+#define MOST_ROOM FARNKUPPEL_WRITTEN_BYTES
+#define STATE_BYTES (FARNKUPPEL_STATE_WORDS * sizeof(int32_t))
 
 struct file {
     const uint8_t *bytes;
@@ -17,7 +17,7 @@ struct file {
 struct load {
     uint32_t result;
     uint32_t answer[FARNKUPPEL_LOAD_WORDS];
-    uint32_t state[FARNKUPPEL_STATE_WORDS];
+    int32_t state[FARNKUPPEL_STATE_WORDS];
 };
 
 struct note {
@@ -30,7 +30,7 @@ struct fix {
     uint32_t result;
     uint32_t answer[FARNKUPPEL_ANSWER_WORDS];
     uint32_t command[FARNKUPPEL_COMMAND_NUMBERS]; /* the bits of the numbers */
-    uint32_t state[FARNKUPPEL_STATE_WORDS];
+    int32_t state[FARNKUPPEL_STATE_WORDS];
 };
 
 struct written {
@@ -39,15 +39,15 @@ struct written {
     uint8_t bytes[MOST_ROOM];
 };
 
-/* Gets the memory that is lent. Once, before any call. */
+/* Gets the memory that is lent, and looks that the archive is the header's. Once, before any call. */
 void prepare(void);
 
 struct load load_of(struct file file, uint32_t reader);
 struct note note_of(struct file file, uint32_t number);
-struct fix fix_of(const uint32_t *state, uint32_t serial, const float *position);
+struct fix fix_of(const int32_t *state, uint32_t serial, const float *position);
 
 /* Into `room` bytes, at most MOST_ROOM. */
-struct written write_of(const uint32_t *state, uint32_t version, size_t room);
+struct written write_of(const int32_t *state, uint32_t version, size_t room);
 
 /* Every call with one slice `cut` elements too short: refused, and nothing is written. */
 void short_slices(struct file file, size_t cut);

@@ -30,11 +30,11 @@ struct input {
 };
 
 struct flight {
-    uint32_t state[FARNKUPPEL_STATE_WORDS];
-    uint32_t copy[FARNKUPPEL_STATE_WORDS]; /* with words set as the input says */
-    double north, east, down;              /* the aircraft, in metres */
+    int32_t state[FARNKUPPEL_STATE_WORDS];
+    int32_t copy[FARNKUPPEL_STATE_WORDS]; /* with words set as the input says */
+    double north, east, down;             /* the aircraft, in metres */
     uint32_t heading;
-    uint32_t fixes_left;                   /* that it may fly on by itself, so that no input takes long */
+    uint32_t fixes_left;                  /* that it may fly on by itself, so that no input takes long */
 };
 
 /* A number of so many bytes, with zeros for those that the input does not have. */
@@ -57,31 +57,37 @@ static void position(struct input *in, float *p)
     }
 }
 
-/* The parts of a point, from 0, in metres. */
-static double part_of(const uint32_t *state, uint32_t point, int part)
+/* Puts the aircraft over a point, from 0. */
+static void place_over(struct flight *flight, uint32_t point)
 {
-    return (int32_t)state[FARNKUPPEL_STATE_POINTS + 3 * (point % 64) + (uint32_t)part] / 10.0;
+    int32_t number = 1 + (int32_t)(point % FARNKUPPEL_MOST_POINTS);
+    flight->north = part_of(flight->state, number, 0) / 10.0;
+    flight->east = part_of(flight->state, number, 1) / 10.0;
+    flight->down = part_of(flight->state, number, 2) / 10.0;
+}
+
+static uint32_t serial_of(const int32_t *state)
+{
+    return (uint32_t)state[FARNKUPPEL_STATE_SERIAL];
 }
 
 /* A fix on the flight; a loaded plan's state is never refused 14. */
 static void fly_to(struct flight *flight, uint32_t serial, const float *p)
 {
     struct fix fix = fix_laws(flight->state, serial, p);
-    HOLD((fix.result == FARNKUPPEL_NO_STATE) == (flight->state[FARNKUPPEL_STATE_COUNT] == 0));
+    HOLD((fix.result == FARNKUPPEL_REFUSED_NO_STATE) == (flight->state[FARNKUPPEL_STATE_COUNT] == 0));
     memcpy(flight->state, fix.state, sizeof flight->state);
-    if (fix.result == FARNKUPPEL_NONE)
+    if (fix.result == FARNKUPPEL_ACCEPTED)
         flight->heading = fix.answer[FARNKUPPEL_ANSWER_HEADING];
 }
 
 static void fly_near(struct flight *flight, struct input *in)
 {
-    uint32_t point = number(in, 1);
-    double north = (int16_t)number(in, 2) / 10.0, east = (int16_t)number(in, 2) / 10.0;
-    flight->north = part_of(flight->state, point, 0) + north;
-    flight->east = part_of(flight->state, point, 1) + east;
-    flight->down = part_of(flight->state, point, 2);
+    place_over(flight, number(in, 1));
+    flight->north += (int16_t)number(in, 2) / 10.0;
+    flight->east += (int16_t)number(in, 2) / 10.0;
     float p[3] = {(float)flight->north, (float)flight->east, (float)flight->down};
-    fly_to(flight, flight->state[FARNKUPPEL_STATE_SERIAL], p);
+    fly_to(flight, serial_of(flight->state), p);
 }
 
 static void fly_on(struct flight *flight, struct input *in)
@@ -92,7 +98,7 @@ static void fly_on(struct flight *flight, struct input *in)
         flight->north += metres * cos(angle);
         flight->east += metres * sin(angle);
         float p[3] = {(float)flight->north, (float)flight->east, (float)flight->down};
-        fly_to(flight, flight->state[FARNKUPPEL_STATE_SERIAL], p);
+        fly_to(flight, serial_of(flight->state), p);
     }
 }
 
@@ -101,9 +107,9 @@ static void fix_copy(struct flight *flight, struct input *in)
 {
     float p[3];
     position(in, p);
-    struct fix fix = fix_laws(flight->copy, flight->copy[FARNKUPPEL_STATE_SERIAL], p);
+    struct fix fix = fix_laws(flight->copy, serial_of(flight->copy), p);
     uint32_t written = write_of(flight->copy, FARNKUPPEL_NEWEST, MOST_ROOM).result;
-    HOLD((fix.result == FARNKUPPEL_NO_STATE) == (written == FARNKUPPEL_NO_STATE));
+    HOLD((fix.result == FARNKUPPEL_REFUSED_NO_STATE) == (written == FARNKUPPEL_REFUSED_NO_STATE));
     write_laws(flight->copy, FARNKUPPEL_NEWEST, 0);
     memcpy(flight->copy, fix.state, sizeof flight->copy);
 }
@@ -111,7 +117,7 @@ static void fix_copy(struct flight *flight, struct input *in)
 static void one_call(struct flight *flight, struct input *in)
 {
     float p[3];
-    uint32_t kind = number(in, 1) % CALLS, serial = flight->state[FARNKUPPEL_STATE_SERIAL];
+    uint32_t kind = number(in, 1) % CALLS, serial = serial_of(flight->state);
     if (kind == FIX || kind == NAMED) {
         serial = kind == NAMED ? number(in, 4) : serial;
         position(in, p);
@@ -125,20 +131,18 @@ static void one_call(struct flight *flight, struct input *in)
         write_laws(flight->state, version, number(in, 2));
     } else if (kind == SET) {
         uint32_t place = number(in, 2) % FARNKUPPEL_STATE_WORDS;
-        flight->copy[place] = number(in, 4);
+        flight->copy[place] = (int32_t)number(in, 4);
     } else {
         fix_copy(flight, in);
     }
 }
 
-static void all_calls(const uint32_t *state, struct input in)
+static void all_calls(const int32_t *state, struct input in)
 {
     struct flight flight = {.fixes_left = 200};
     memcpy(flight.state, state, sizeof flight.state);
     memcpy(flight.copy, state, sizeof flight.copy);
-    flight.north = part_of(state, 0, 0);
-    flight.east = part_of(state, 0, 1);
-    flight.down = part_of(state, 0, 2);
+    place_over(&flight, 0);
     for (int calls = 0; in.left > 0 && calls < 64; calls++)
         one_call(&flight, &in);
 }
@@ -181,7 +185,7 @@ int LLVMFuzzerTestOneInput(const uint8_t *data, size_t size)
     in.left -= calls.left;
     struct file file = file_of(&in, which >= 128);
     struct load load = load_laws(file, readers[which % 8]);
-    note_laws(file, load.result == FARNKUPPEL_NONE, asked);
+    note_laws(file, load.result == FARNKUPPEL_ACCEPTED, asked);
     short_slices(file, 1 + asked);
     write_laws(load.state, FARNKUPPEL_NEWEST, 0);
     all_calls(load.state, calls);

@@ -4,6 +4,9 @@
 
 #include "calls.h"
 
+/* A part of a point, in decimetres: the point from 1, the part 0 for north, 1 for east, 2 for down. */
+int32_t part_of(const int32_t *state, int32_t point, int part);
+
 /* A file by the reader that is asked for and by every reader; the newest one's load comes back. */
 struct load load_laws(struct file file, uint32_t reader);
 
@@ -11,9 +14,9 @@ struct load load_laws(struct file file, uint32_t reader);
 void note_laws(struct file file, int loads, uint32_t asked);
 
 /* What a state writes at a version, into a buffer that is so much shorter than it could be. */
-void write_laws(const uint32_t *state, uint32_t version, size_t less);
+void write_laws(const int32_t *state, uint32_t version, size_t less);
 
 /* One fix; the answer comes back. */
-struct fix fix_laws(const uint32_t *state, uint32_t serial, const float *position);
+struct fix fix_laws(const int32_t *state, uint32_t serial, const float *position);
 
 #endif

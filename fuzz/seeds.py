@@ -10,6 +10,8 @@ import sys
 ROOT = os.path.join(os.path.dirname(os.path.abspath(__file__)), "..")
 FIX, NAMED, NEAR, FLY, WRITE, SET, FIX_SET = range(7)
 NEWEST, MENDED = 3, 128
+SERIAL, MODE, RADIUS_WORD, COUNT, INDEX, PHASE, FINISHED = range(7)
+PLACES, NORTHS, EASTS, DOWNS, COURSES = 64, 7, 71, 135, 199
 
 
 def read(path):
@@ -56,7 +58,7 @@ def write(version, less=0):
 
 
 def set_word(place, value):
-    return bytes([SET]) + struct.pack(">HI", place, value)
+    return bytes([SET]) + struct.pack(">HI", place, value & 0xFFFFFFFF)
 
 
 def recorded_fixes(path):
@@ -118,10 +120,20 @@ def fixes():
     far = [50000.0, 50000.00390625, float("nan"), float("inf"), -50000.0]
     yield seed(file, *[fix(FIX, north, 1.0) for north in far], *[fix(FIX, 0.25, 0.05, down) for down in [10000.0, -10001.0]])
     yield seed(file, bytes([NAMED]) + struct.pack(">Ifff", 8, 0, 0, 0))
-    for place, value in [(0, 0), (1, 3), (2, 0), (3, 65), (4, 4), (5, 5), (6, 1), (7, 500001), (198, 1), (199, 4096), (262, 1)]:
+    for place, value in broken_words():
         yield seed(file, set_word(place, value), fix(FIX_SET, 10.0, 10.0), fix(FIX_SET, 300.0, 400.0))
     for phase in range(1, 6):
-        yield seed(file, set_word(4, 4), set_word(5, phase), *[fix(FIX_SET, north, 400.0) for north in [-100.0, -50.0, 0.0, 50.0]])
+        yield seed(file, set_word(INDEX, 4), set_word(PHASE, phase), *[fix(FIX_SET, north, 400.0) for north in [-100.0, -50.0, 0.0, 50.0]])
+
+
+def broken_words():
+    """Words out of their ranges, and some that a narrower or an unsigned number would take for others."""
+    least = -1 << 31
+    front = {SERIAL: [0, least], MODE: [3, -1, 258], RADIUS_WORD: [0, -1, 65736, least], COUNT: [65, -1, least + 4], INDEX: [4, 0, -2, least + 2],
+             PHASE: [5, 6, -1, 257, least + 1], FINISHED: [1, 2, -1, least]}
+    blocks = {NORTHS: [500001, -500001, least], EASTS: [500001, least], DOWNS: [100001, -100001, least], COURSES: [4096, -1, -4096, -65536, 65536, least]}
+    unused = {block + PLACES - 1: [1, -1, least] for block in blocks}
+    return [(place, value) for words in (front, blocks, unused) for place in words for value in words[place]]
 
 
 def main(folder):

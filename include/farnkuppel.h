@@ -3,10 +3,18 @@
  * rt staticlib autopilot    writes target/staticlib/libautopilot.a: load, fix and write
  * rt staticlib desk         writes target/staticlib/libdesk.a: the refusal number of a file, and its notes
  *
- * Every function answers a refusal number, 0 for none, whatever it is given. It reads and writes the memory that it is lent, up to the lengths
- * that it is told, and no other; it keeps nothing between calls and uses no heap. What each one writes is said below and is proved.
- * A slice that is shorter than it has to be is refused FARNKUPPEL_TOO_SHORT, and then nothing at all is written. A slice may be longer: the
- * rest of it stays as it is. Slices of one call must not overlap. */
+ * Both are for x86-64 under Linux, by the System V calling convention. They need memcpy and memset, as the C library has them, and no other
+ * symbol.
+ *
+ * Every function answers a refusal number, 0 for none, whatever it is given; farnkuppel_interface alone answers something else. It reads and
+ * writes the memory that it is lent, up to the lengths that it is told, and no other; it keeps nothing between calls and uses no heap. What each
+ * one writes is said below and is proved.
+ *
+ * Memory is lent as a slice, by two arguments: a pointer, and the number of its elements (not of bytes) as a size_t. A state, an answer, a
+ * command or a note's buffer that is shorter than it has to be is refused FARNKUPPEL_REFUSED_MISFIT before anything else is looked at, and then
+ * nothing at all is written. A slice may be longer: the rest of it stays as it is. Slices of one call must not overlap.
+ * The pointer may be NULL where the length is 0. Such a slice is answered as any other of that length: as a state, an answer, a command or a
+ * note's buffer it is too short, as a file that is read it has under 11 bytes, and as a file that is written it has no room. */
 #ifndef FARNKUPPEL_H
 #define FARNKUPPEL_H
 
@@ -17,96 +25,212 @@
 extern "C" {
 #endif
 
-/* The newest version of plan files. Readers have versions 1 to this one. */
+/* The number of this interface. It grows whenever a word moves or a function changes; the first interface had none. An archive answers its own by
+ * farnkuppel_interface: where that is another number, nothing below holds of the archive. */
+#define FARNKUPPEL_INTERFACE 2
+
+/* ---- sizes and ranges */
+
+/* The newest version of plan files. Readers have versions 1 to this one, and files are written at these. */
 #define FARNKUPPEL_NEWEST 3
 
 /* Courses and headings: so many to a circle, clockwise from north. */
 #define FARNKUPPEL_CIRCLE 4096
 
-/* Refusal numbers. */
+/* The points of a plan. */
+#define FARNKUPPEL_FEWEST_POINTS 3
+#define FARNKUPPEL_MOST_POINTS 64
+
+/* The longest file that can load: 11 bytes of header and 8,192 of records. */
+#define FARNKUPPEL_FILE_BYTES 8203
+
+/* The longest file that is written: the header, a radius (4 bytes), and 64 points (14 bytes each) with a course each (4). A buffer of this length
+ * has room for every plan. */
+#define FARNKUPPEL_WRITTEN_BYTES 1167
+
+/* The most bytes that a note has. */
+#define FARNKUPPEL_NOTE_BYTES 32
+
+/* A fix is in metres and lies from minus to plus this, both included: north and east, and down. */
+#define FARNKUPPEL_FIX_LEVEL 50000
+#define FARNKUPPEL_FIX_DOWN 10000
+
+/* The stack that a call takes at the most, in bytes, whatever the plan: with its return address and those of memcpy and memset, but without what
+ * these two take for themselves. An argument that the caller puts on the stack counts as the caller's. tests/stack works the numbers out. */
+#define FARNKUPPEL_STACK_INTERFACE 8
+#define FARNKUPPEL_STACK_LOAD 512
+#define FARNKUPPEL_STACK_FIX 1344
+#define FARNKUPPEL_STACK_WRITE 576
+#define FARNKUPPEL_STACK_REFUSAL 1360
+#define FARNKUPPEL_STACK_NOTE 1392
+
+/* ---- refusals */
+
+/* Refusal numbers, and the place that the answer has with each: 0 where none is named. The first that applies is given. A load looks at the
+ * reader's version, then in the order of the numbers, at the records one after the other for 6 and 7 and at the legs for 12 and 17; what is said
+ * of a load holds of farnkuppel_refusal too, which has no place. A fix looks for 14, 15, 13, a write for 14, 3, 7, 16. */
 enum farnkuppel_refusal_number {
-    FARNKUPPEL_NONE = 0,
-    FARNKUPPEL_UNDER_11_BYTES = 1,
-    FARNKUPPEL_MARK_DIFFERS = 2,
-    FARNKUPPEL_VERSION = 3,            /* file version 0, or a version asked for that is none of 1 to 3 */
-    FARNKUPPEL_SERIAL_0 = 4,
-    FARNKUPPEL_AREA_LENGTH = 5,
-    FARNKUPPEL_RECORD_WRONG = 6,       /* place: the record's offset in the file */
-    FARNKUPPEL_TOO_NEW = 7,            /* place: the record's offset in the file; a write: 0 */
-    FARNKUPPEL_POINTS = 8,             /* under 3 or over 64 */
-    FARNKUPPEL_COURSES = 9,            /* a course without a radius, or courses at some points only */
-    FARNKUPPEL_EQUAL_NEIGHBOURS = 10,  /* place: the later point, from 1 */
-    FARNKUPPEL_CORNER_TOO_SHARP = 11,  /* place: the corner */
-    FARNKUPPEL_LEG_TOO_SHORT = 12,     /* place: the leg's end point */
-    FARNKUPPEL_NO_POSITION = 13,       /* a fix that is no number or too far away */
-    FARNKUPPEL_NO_STATE = 14,          /* words that hold no state, or one that breaks a rule */
-    FARNKUPPEL_OTHER_SERIAL = 15,      /* the named serial isn't the state's */
-    FARNKUPPEL_NO_ROOM = 16,           /* the file's buffer is too short */
-    FARNKUPPEL_NO_DUBINS_CASE = 17,    /* place: the leg's end point */
-    FARNKUPPEL_TOO_SHORT = 100         /* a lent slice is too short */
+    FARNKUPPEL_ACCEPTED = 0,
+    /* A load: the file has under 11 bytes. */
+    FARNKUPPEL_REFUSED_FILE_TOO_SHORT = 1,
+    /* A load: the file does not begin with WPL. */
+    FARNKUPPEL_REFUSED_NO_MARK = 2,
+    /* A load: the reader's version is none of 1 to 3, or the file's is 0. A write: the version is none of 1 to 3. */
+    FARNKUPPEL_REFUSED_NO_VERSION = 3,
+    /* A load: the file's serial is 0. */
+    FARNKUPPEL_REFUSED_NO_SERIAL = 4,
+    /* A load: the area length is not the number of bytes behind the header, or over 8,192. */
+    FARNKUPPEL_REFUSED_WRONG_AREA = 5,
+    /* A load: a record is cut short; has a wrong length, value or position for its kind; is newer than the file's version; or is of a kind that
+     * the reader does not know, in a file that is not newer than the reader. Place: the record's offset in the file. */
+    FARNKUPPEL_REFUSED_WRONG_RECORD = 6,
+    /* A load: a record that the reader does not know and may not leave out, in a newer file. Place: the record's offset in the file.
+     * A write: the plan needs a higher version. Place: 0. */
+    FARNKUPPEL_REFUSED_TOO_NEW = 7,
+    /* A load: under 3 points, or over 64. */
+    FARNKUPPEL_REFUSED_POINT_COUNT = 8,
+    /* A load: a course without a radius, or courses at some points only. */
+    FARNKUPPEL_REFUSED_COURSE_COUNT = 9,
+    /* A load: neighbouring points are equal in north and east. Place: the later point, from 1. */
+    FARNKUPPEL_REFUSED_EQUAL_NEIGHBOURS = 10,
+    /* A load: in lines, legs that are exactly opposite; in fillets, a turn of more than 1,792. Place: the corner's point, from 1. */
+    FARNKUPPEL_REFUSED_SHARP_CORNER = 11,
+    /* A load: in fillets, a leg that is too short for the circles at its ends; in Dubins plans, one of under three radii in north and east.
+     * Place: the leg's end point, from 1. */
+    FARNKUPPEL_REFUSED_SHORT_LEG = 12,
+    /* A fix: a number is NaN or infinite, or beyond the ranges above. */
+    FARNKUPPEL_REFUSED_NO_POSITION = 13,
+    /* A fix or a write: the words hold no state, or one that breaks a rule. */
+    FARNKUPPEL_REFUSED_NO_STATE = 14,
+    /* A fix: the serial that it names is not the state's. */
+    FARNKUPPEL_REFUSED_OTHER_SERIAL = 15,
+    /* A write: the buffer is shorter than the file. */
+    FARNKUPPEL_REFUSED_NO_ROOM = 16,
+    /* A load: there is no Dubins path for a leg. Place: the leg's end point, from 1. */
+    FARNKUPPEL_REFUSED_NO_CASE = 17,
+    /* A load, a fix, a write or a note: a lent slice is too short. Nothing is written, so there is no place. */
+    FARNKUPPEL_REFUSED_MISFIT = 100
 };
 
-/* A state: so many words, at these places. Signed numbers are in two's complement. Points have three words each, north, east and down in
- * decimetres; 64 places are always there, and those past the count are 0.
- * The index is the number of the point that is flown to, from 2 to the count in every mode. Phases: lines have 1 only; fillets have 1 on a line
- * and 2 on the circle of a corner, and on the last leg, where the index is the count, 1 only; Dubins plans have 1 to 5. Finished is set by a fix
- * at the last point or past it (lines: in three dimensions, fillets: in north and east, along the last leg; Dubins: along the last course), and
- * then stays set. It is 1 only at the last index and phase: the count and 1 in lines and fillets, the count and 5 in Dubins plans. Words with
- * another index, phase or finished are refused FARNKUPPEL_NO_STATE. So are words that an earlier version of this library saved as finished at the
- * point before the last, where it ended lines and fillets: load the plan again. */
+/* ---- a state */
+
+/* Modes. */
+#define FARNKUPPEL_MODE_LINES 0
+#define FARNKUPPEL_MODE_FILLETS 1
+#define FARNKUPPEL_MODE_DUBINS 2
+
+/* Phases. Lines have one; fillets have the circle at a corner too, so not where the index is the count; Dubins plans have five on each leg. */
+#define FARNKUPPEL_PHASE_LINES_LINE 1
+#define FARNKUPPEL_PHASE_FILLETS_LINE 1
+#define FARNKUPPEL_PHASE_FILLETS_CIRCLE 2
+#define FARNKUPPEL_PHASE_DUBINS_START_FIRST 1 /* on the circle at the leg's start, until short of the place where it is left */
+#define FARNKUPPEL_PHASE_DUBINS_START_LAST 2  /* on the same circle, until at that place */
+#define FARNKUPPEL_PHASE_DUBINS_LINE 3        /* on the straight part, until at the place where the end's circle begins */
+#define FARNKUPPEL_PHASE_DUBINS_END_FIRST 4   /* on the circle at the leg's end, until short of the end point */
+#define FARNKUPPEL_PHASE_DUBINS_END_LAST 5    /* on the same circle, until at the end point */
+
+/* A state: so many int32_t, at these places. The serial, the count and the index are the bits of a uint32_t.
+ * The points' numbers lie in four blocks of FARNKUPPEL_MOST_POINTS words, point 1 first in each: norths, easts and downs in decimetres, and
+ * courses. What lies past the count is 0, and so are all courses but those of Dubins plans.
+ * The index is the number of the point that is flown to, from 2 to the count in every mode. Finished is set by a fix at the last point or past it
+ * (lines: in three dimensions, fillets: in north and east, along the last leg; Dubins: along the last course), and then stays set. It is 1 only
+ * at the last index and phase: the count and 1 in lines and fillets, the count and 5 in Dubins plans.
+ * The empty state, which a refused load leaves, is all 0; a fix or a write on it is refused.
+ * Words that hold anything else are refused FARNKUPPEL_REFUSED_NO_STATE. Words that an archive of another interface filled are no state here,
+ * even where they are not refused: load the plan again. */
 #define FARNKUPPEL_STATE_WORDS 263
 #define FARNKUPPEL_STATE_SERIAL 0
-#define FARNKUPPEL_STATE_MODE 1        /* 0 lines, 1 fillets, 2 Dubins */
+#define FARNKUPPEL_STATE_MODE 1
 #define FARNKUPPEL_STATE_RADIUS 2      /* decimetres, 0 for none */
 #define FARNKUPPEL_STATE_COUNT 3
 #define FARNKUPPEL_STATE_INDEX 4
 #define FARNKUPPEL_STATE_PHASE 5
 #define FARNKUPPEL_STATE_FINISHED 6    /* 0 or 1 */
-#define FARNKUPPEL_STATE_POINTS 7
+#define FARNKUPPEL_STATE_NORTHS 7
+#define FARNKUPPEL_STATE_EASTS 71
+#define FARNKUPPEL_STATE_DOWNS 135
 #define FARNKUPPEL_STATE_COURSES 199
 
-/* The answer to a load: refusal, place. */
+/* ---- answers: words are uint32_t, signed numbers in two's complement */
+
+/* To a load. */
 #define FARNKUPPEL_LOAD_WORDS 2
+#define FARNKUPPEL_LOAD_REFUSAL 0
+#define FARNKUPPEL_LOAD_PLACE 1
 
-/* The answer to a write: refusal, place, the file's length. */
+/* To a write. */
 #define FARNKUPPEL_WRITE_WORDS 3
+#define FARNKUPPEL_WRITE_REFUSAL 0
+#define FARNKUPPEL_WRITE_PLACE 1
+#define FARNKUPPEL_WRITE_LENGTH 2      /* of the file; 0 where the write is refused */
 
-/* The answer to a note: the number of its bytes, 0 where there is none. */
+/* To a note. */
 #define FARNKUPPEL_NOTE_WORDS 1
+#define FARNKUPPEL_NOTE_LENGTH 0       /* of the note; 0 where there is none */
 
-/* The most bytes that a note has. */
-#define FARNKUPPEL_NOTE_BYTES 32
-
-/* The answer to a fix: so many words, at these places. */
+/* To a fix. Read the refusal first: a refused fix has no command, and its heading is 0, which is north as well. Its index, phase and finished are
+ * those of the state as it stands. */
 #define FARNKUPPEL_ANSWER_WORDS 8
 #define FARNKUPPEL_ANSWER_REFUSAL 0
-#define FARNKUPPEL_ANSWER_PLACE 1
-#define FARNKUPPEL_ANSWER_KIND 2       /* 0 no command, 1 a line, 2 a circle */
-#define FARNKUPPEL_ANSWER_SENSE 3      /* of a circle: 1 clockwise, 0xFFFFFFFF the other way */
+#define FARNKUPPEL_ANSWER_PLACE 1      /* 0 for every fix */
+#define FARNKUPPEL_ANSWER_KIND 2       /* of the command */
+#define FARNKUPPEL_ANSWER_SENSE 3      /* of a circle */
 #define FARNKUPPEL_ANSWER_HEADING 4
 #define FARNKUPPEL_ANSWER_INDEX 5
 #define FARNKUPPEL_ANSWER_PHASE 6
 #define FARNKUPPEL_ANSWER_FINISHED 7
 
-/* The command of a fix in metres: a line's start and direction (north, east, down each), or a circle's centre, its radius and two zeros; six
- * zeros where there is none. */
+/* Kinds of command. */
+#define FARNKUPPEL_COMMAND_NONE 0
+#define FARNKUPPEL_COMMAND_LINE 1
+#define FARNKUPPEL_COMMAND_CIRCLE 2
+
+/* Senses, as seen from above. */
+#define FARNKUPPEL_SENSE_NONE 0u       /* the command is no circle */
+#define FARNKUPPEL_SENSE_CLOCKWISE 1u
+#define FARNKUPPEL_SENSE_ANTICLOCKWISE 0xFFFFFFFFu
+
+/* The command of a fix: so many floats in metres, at places that depend on its kind. A line has its start and its direction, a circle its centre,
+ * its radius and two zeros, no command six zeros. The direction of a line is the whole leg, but on the straight part of a Dubins leg its length
+ * is about 1. */
 #define FARNKUPPEL_COMMAND_NUMBERS 6
+#define FARNKUPPEL_LINE_START_NORTH 0
+#define FARNKUPPEL_LINE_START_EAST 1
+#define FARNKUPPEL_LINE_START_DOWN 2
+#define FARNKUPPEL_LINE_DIRECTION_NORTH 3
+#define FARNKUPPEL_LINE_DIRECTION_EAST 4
+#define FARNKUPPEL_LINE_DIRECTION_DOWN 5
+#define FARNKUPPEL_CIRCLE_CENTRE_NORTH 0
+#define FARNKUPPEL_CIRCLE_CENTRE_EAST 1
+#define FARNKUPPEL_CIRCLE_CENTRE_DOWN 2
+#define FARNKUPPEL_CIRCLE_RADIUS 3
+
+/* ---- in both archives */
+
+/* The number of the interface that the archive has. A program that links both archives has the linker take the first of the two, which are the
+ * same (-Wl,-z,muldefs). */
+uint32_t farnkuppel_interface(void);
+
+/* ---- in libautopilot.a */
 
 /* Loads a plan file by a reader of a version. Reads `file`; writes the first FARNKUPPEL_STATE_WORDS of `state` (the state at the start of the
  * plan, or the empty state where the load is refused) and the first FARNKUPPEL_LOAD_WORDS of `answer`. */
-uint32_t farnkuppel_load(const uint8_t *file, size_t file_length, uint32_t reader, uint32_t *state, size_t state_length, uint32_t *answer,
+uint32_t farnkuppel_load(const uint8_t *file, size_t file_length, uint32_t reader, int32_t *state, size_t state_length, uint32_t *answer,
                          size_t answer_length);
 
-/* One position fix, in metres, for the plan with a serial. Writes the next state to `state`, which a refused fix leaves as it was, the first
- * FARNKUPPEL_ANSWER_WORDS of `answer` and the first FARNKUPPEL_COMMAND_NUMBERS of `command`. The command is that of the index and phase before
- * the fix: the fix that reaches a point still gets the leg to it, and the one that finishes a flight the last leg, as does every fix after it. */
-uint32_t farnkuppel_fix(uint32_t *state, size_t state_length, uint32_t serial, float north, float east, float down, uint32_t *answer,
+/* One position fix, in metres, for the plan with a serial. Writes the next state to `state`, by its index, phase and finished alone, and nothing
+ * of it where the fix is refused; the first FARNKUPPEL_ANSWER_WORDS of `answer`; and the first FARNKUPPEL_COMMAND_NUMBERS of `command`. The
+ * command is that of the index and phase before the fix: the fix that reaches a point still gets the leg to it, and the one that finishes a
+ * flight the last leg, as does every fix after it. */
+uint32_t farnkuppel_fix(int32_t *state, size_t state_length, uint32_t serial, float north, float east, float down, uint32_t *answer,
                         size_t answer_length, float *command, size_t command_length);
 
 /* Writes the plan of a state as a file of a version. Reads `state`; writes the file's bytes at the front of `file`, or nothing of it where the
  * write is refused, and the first FARNKUPPEL_WRITE_WORDS of `answer`. */
-uint32_t farnkuppel_write(const uint32_t *state, size_t state_length, uint32_t version, uint8_t *file, size_t file_length, uint32_t *answer,
+uint32_t farnkuppel_write(const int32_t *state, size_t state_length, uint32_t version, uint8_t *file, size_t file_length, uint32_t *answer,
                           size_t answer_length);
+
+/* ---- in libdesk.a */
 
 /* The number of the first refusal of a plan file for a reader of a version, 0 if it loads. Reads `file`, and writes nothing. */
 uint32_t farnkuppel_refusal(const uint8_t *file, size_t length, uint32_t reader);

@@ -15,7 +15,7 @@ from pathlib import Path
 
 from tables import LAST_LEG, rows, state_stands
 
-STATE, POINTS, COURSES = 263, 7, 199
+STATE, BLOCKS, COURSES = 263, (7, 71, 135), 199
 KINDS = {"none": 0, "line": 1, "circle": 2}
 
 
@@ -24,16 +24,21 @@ def words_of(row):
     numbers = [int(row[k]) for k in ("serial", "mode", "radius", "count", "index", "phase", "finished")]
     words = numbers + [0] * (STATE - len(numbers))
     for i, point in enumerate(p for p in row["points"].split(";") if p not in ("", "-")):
-        for j, part in enumerate(point.split(",")):
-            words[POINTS + 3 * i + j] = int(part) & 0xFFFFFFFF
+        for block, part in zip(BLOCKS, point.split(",")):
+            words[block + i] = int(part)
     for i, course in enumerate(c for c in row["courses"].split(";") if c not in ("", "-")):
         words[COURSES + i] = int(course)
-    return words if all(0 <= w < 1 << 32 for w in words) else None
+    return [signed(w) for w in words] if all(-1 << 31 <= w < 1 << 32 for w in words) else None
+
+
+def signed(number):
+    """The word with the bits of a number."""
+    return ctypes.c_int32(number).value
 
 
 def fixed(library, row, words):
     """What the fix answers, in the file's columns, and the words afterwards."""
-    state, answer, command = (ctypes.c_uint32 * STATE)(*words), (ctypes.c_uint32 * 8)(), (ctypes.c_float * 6)()
+    state, answer, command = (ctypes.c_int32 * STATE)(*words), (ctypes.c_uint32 * 8)(), (ctypes.c_float * 6)()
     place = [struct.unpack(">f", bytes.fromhex(row[k]))[0] for k in "ned"]
     library.farnkuppel_fix(state, STATE, ctypes.c_uint32(int(row["named"])), *map(ctypes.c_float, place), answer, 8, command, 6)
     a = list(answer)
@@ -50,7 +55,7 @@ def wanted(row):
 
 def wrote(library, row, words):
     room = int(row["w_buffer"])
-    state, answer, file = (ctypes.c_uint32 * STATE)(*words), (ctypes.c_uint32 * 3)(), (ctypes.c_uint8 * max(room, 1))()
+    state, answer, file = (ctypes.c_int32 * STATE)(*words), (ctypes.c_uint32 * 3)(), (ctypes.c_uint8 * max(room, 1))()
     library.farnkuppel_write(state, STATE, ctypes.c_uint32(int(row["w_version"])), file, ctypes.c_size_t(room), answer, 3)
     return list(answer)
 

@@ -1,5 +1,6 @@
-/* The desk's functions from C. A line for each file and reader: the name, the reader and the refusal number. A line for each file and note:
- * the name, the note's number, the result, the answer (- where it was not written) and the lent buffer, which held a dot at every byte.
+/* The desk's functions from C. A line for the interface. A line for each file and reader: the name, the reader and the refusal number. A line for
+ * each file and note: the name, the note's number, the result, the answer (- where it was not written) and the lent buffer, which held a dot at
+ * every byte.
  * Every file is written out below; what is expected is read off document 01's tables and its sentence on notes. */
 #include "farnkuppel.h"
 
@@ -116,7 +117,7 @@ static void ask_note(const char *name, uint32_t number)
 
 static void ask_all(const char *name)
 {
-    for (uint32_t reader = 1; reader <= 3; reader++)
+    for (uint32_t reader = 1; reader <= FARNKUPPEL_NEWEST; reader++)
         ask(name, reader);
 }
 
@@ -317,8 +318,14 @@ static void later_notes(void)
         ask_note("later", number);
 }
 
+static void interface(void)
+{
+    printf("interface %s\n", farnkuppel_interface() == FARNKUPPEL_INTERFACE ? "as in the header" : "another");
+}
+
 int main(void)
 {
+    interface();
     headers();
     areas();
     records();

@@ -1,72 +1,51 @@
 // The path manager for C: a state in words that the caller keeps; loads, fixes and writes over lent memory. The header is include/farnkuppel.h.
 use guidance::Command;
+use manager::Decided;
 use units::Fix;
+use wpl::Written;
 ghost use mathlib.Core.Path.{_≡_};
-ghost use mathlib.Core.List.{[], _∷_};
+ghost use mathlib.Core.Bool.{true};
 ghost use Prim.Native.Nat.{_≤_};
 ghost use lib.ListN.{length};
+ghost use Rattle.refusals.specs.Numbers.{noState};
 ghost use Rattle.buffers.specs.Splice.{over};
 ghost use Rattle.guidance.specs.declared.Command.the-variants.{Nothing};
-ghost use Rattle.words.specs.Words.{commandNumbers};
+ghost use Rattle.manager.specs.Step.{steppedBy, stepOf};
+ghost use Rattle.c_answer.specs.Words.{interface, commandNumbers};
+ghost use Rattle.c_state.specs.Stored.{indexPlace, stateLength, planAt, stateAt, holdsState, AreWords};
 ghost use Rattle.wpl.specs.Load.{loadOf, loadedOf};
-ghost use Rattle.autopilot.specs.Calls.{pairFits, loadFits, loadResult, loadState, loadAnswer, fixFits, fixResult, fixState, fixAnswer, fixCommand, writeFits, writeFrom, writeResult, writeFile, writeAnswer};
+ghost use Rattle.wpl.specs.Write.{writeOf, writtenOf, bufferOf};
+ghost use Rattle.autopilot.specs.Calls.{pairFits, loadFits, loadResult, loadState, loadAnswer, fixFits, refusedWords, fixResult, fixState, fixAnswer, fixCommand, writeFits, writeFrom, writeResult, writeFile, writeAnswer};
 
 // The words of the answers to a load and to a write.
 pub const LOAD: usize = 2;
 
 pub const WRITE: usize = 3;
 
+// The number of this interface, by which a caller knows that the archive and the header belong together.
+#[no_mangle]
+pub extern "C" fn farnkuppel_interface() -> u32
+    ensures { λ r. ⌜ r ≡ interface ⌝ }
+{
+    c_answer::INTERFACE
+}
+
 // Whether a state's words and an answer have their lengths.
 fn fits(state: usize, answer: usize, least: usize) -> bool
     ensures { λ r. ⌜ r ≡ pairFits state answer least ⌝ }
 {
-    if states::STATE <= state {
+    if c_state::STATE <= state {
         return least <= answer;
     }
     false
 }
 
-// Two words, and three, at the front of a part.
-fn put_two(a: u32, b: u32, part: &mut [u32])
-    requires { ⌜ 2 ≤ length (now part) ⌝ }
-    ensures { λ _. ⌜ now (part .exit) ≡ over (a ∷ b ∷ []) (now (part .entry)) ⌝ }
-{
-    part[0] = a;
-    part[1] = b;
-}
-
-fn put_three(a: u32, b: u32, c: u32, part: &mut [u32])
-    requires { ⌜ 3 ≤ length (now part) ⌝ }
-    ensures { λ _. ⌜ now (part .exit) ≡ over (a ∷ b ∷ c ∷ []) (now (part .entry)) ⌝ }
-{
-    part[0] = a;
-    part[1] = b;
-    part[2] = c;
-}
-
-// The answer of words that hold no state, with their index, phase and finished as they stand.
-fn refuse(
-    number: u8,
-    index: u32,
-    phase: u32,
-    finished: u32,
-    answer: &mut [u32],
-    command: &mut [f32],
-)
-    requires { ⌜ (8 ≤ length (now answer)) × (6 ≤ length (now command)) ⌝ }
-    ensures { λ _. ⌜ now (answer .exit) ≡ over (number ∷ 0 ∷ 0 ∷ 0 ∷ 0 ∷ index ∷ phase ∷ finished ∷ []) (now (answer .entry)) ⌝ }
-    ensures { λ _. ⌜ now (command .exit) ≡ over (commandNumbers Nothing) (now (command .entry)) ⌝ }
-{
-    words::put_eight(number as u32, 0, 0, 0, 0, index, phase, finished, answer);
-    words::put_command(Command::Nothing, command);
-}
-
-// Loads a plan file by a reader of a version.
+// Loads a plan file by a reader of a version, into the state's words as they lie. Refused, they are those of the empty state.
 #[no_mangle]
 pub extern "C" fn farnkuppel_load(
     file: &[u8],
     reader: u32,
-    state: &mut [u32],
+    state: &mut [i32],
     answer: &mut [u32],
 ) -> u32
     ensures { λ r. ⌜ r ≡ loadResult (loadFits (now (state .entry)) (now (answer .entry))) (loadedOf (loadOf reader (now (file .entry)))) ⌝ }
@@ -76,18 +55,56 @@ pub extern "C" fn farnkuppel_load(
     if !fits(state.len(), answer.len(), LOAD) {
         return refusals::MISFIT as u32;
     }
-    let loaded = wpl::load(file, reader);
-    let held = loaded.state;
-    states::put_state(held, state);
-    let number = loaded.refusal as u32;
-    put_two(number, words::word(loaded.place), answer);
+    let entered = wpl::load_into(file, reader, &mut state[c_state::NORTHS..c_state::STATE]);
+    let head = entered.head;
+    let progress = entered.progress;
+    c_state::put_head(head, progress, state);
+    let number = entered.refusal as u32;
+    buffers::put_words(&[number, c_answer::word(entered.place)], answer);
     number
+}
+
+// One fix of the state that words hold. Their blocks are lent as they lie.
+fn decide_at(words: &[i32], serial: u32, fix: Fix) -> Decided
+    requires { ⌜ (stateLength ≤ length (now words)) × (holdsState (now words) ≡ true) ⌝ }
+    ensures { λ r. ⌜ (steppedBy (planAt (now (words .entry))) r ≡ stepOf (stateAt (now (words .entry))) serial fix) × AreWords indexPlace (now (words .entry)) ⌝ }
+{
+    manager::decide(
+        c_state::head_at(words),
+        c_state::progress_at(words),
+        serial,
+        fix,
+        &words[c_state::NORTHS..c_state::EASTS],
+        &words[c_state::EASTS..c_state::DOWNS],
+        &words[c_state::DOWNS..c_state::COURSES],
+        &words[c_state::COURSES..c_state::STATE],
+    )
+}
+
+// The answer of words that hold no state, with their index, phase and finished as they stand.
+fn refuse(words: &[i32], answer: &mut [u32], command: &mut [f32])
+    requires { ⌜ (stateLength ≤ length (now words)) × ((8 ≤ length (now answer)) × (6 ≤ length (now command))) ⌝ }
+    ensures { λ _. ⌜ now (answer .exit) ≡ over (refusedWords noState 0 (now (words .entry))) (now (answer .entry)) ⌝ }
+    ensures { λ _. ⌜ now (command .exit) ≡ over (commandNumbers Nothing) (now (command .entry)) ⌝ }
+{
+    let values = [
+        refusals::NO_STATE as u32,
+        0,
+        0,
+        0,
+        0,
+        c_state::word_at(words, c_state::INDEX),
+        c_state::word_at(words, c_state::PHASE),
+        c_state::word_at(words, c_state::FINISHED),
+    ];
+    buffers::put_words(&values, answer);
+    c_answer::put_command(Command::Nothing, command);
 }
 
 // One fix for the plan with a serial. On a refusal the state's words are what they were.
 #[no_mangle]
 pub extern "C" fn farnkuppel_fix(
-    state: &mut [u32],
+    state: &mut [i32],
     serial: u32,
     north: f32,
     east: f32,
@@ -100,40 +117,48 @@ pub extern "C" fn farnkuppel_fix(
     ensures { λ _. ⌜ now (answer .exit) ≡ fixAnswer (fixFits (now (state .entry)) (now (answer .entry)) (now (command .entry))) (now (state .entry)) serial (record { north = north; east = east; down = down }) (now (answer .entry)) ⌝ }
     ensures { λ _. ⌜ now (command .exit) ≡ fixCommand (fixFits (now (state .entry)) (now (answer .entry)) (now (command .entry))) (now (state .entry)) serial (record { north = north; east = east; down = down }) (now (command .entry)) ⌝ }
 {
-    if !fits(state.len(), answer.len(), words::ANSWER) {
+    if !fits(state.len(), answer.len(), c_answer::ANSWER) {
         return refusals::MISFIT as u32;
     }
-    if command.len() < words::COMMAND {
+    if command.len() < c_answer::COMMAND {
         return refusals::MISFIT as u32;
     }
-    let taken = states::take_state(state);
-    if taken.refusal != 0 {
-        refuse(
-            taken.refusal,
-            state[states::INDEX],
-            state[states::PHASE],
-            state[states::FINISHED],
-            answer,
-            command,
-        );
-        return taken.refusal as u32;
+    if !c_state::holds_state(state) {
+        refuse(state, answer, command);
+        return refusals::NO_STATE as u32;
     }
-    let held = taken.state;
-    let stepped = held.step(serial, Fix { north, east, down });
-    let given = stepped.answer;
-    let number = given.refusal as u32;
+    let decided = decide_at(state, serial, Fix { north, east, down });
+    let given = decided.answer;
     let asked = given.command;
-    let next = stepped.state;
-    words::put_answer(given, answer);
-    words::put_command(asked, command);
-    states::put_progress(next, state);
-    number
+    let next = decided.progress;
+    c_answer::put_answer(given, answer);
+    c_answer::put_command(asked, command);
+    c_state::put_progress(next, state);
+    given.refusal as u32
 }
 
-// Writes the plan of a state as a file of a version.
+// The file of the plan that words hold. Their blocks are lent as they lie.
+fn write_at(words: &[i32], version: u32, file: &mut [u8]) -> Written
+    requires { ⌜ (stateLength ≤ length (now words)) × (holdsState (now words) ≡ true) ⌝ }
+    ensures { λ r. ⌜ r ≡ writtenOf (writeOf (stateAt (now (words .entry))) version (length (now (file .entry)))) ⌝ }
+    ensures { λ _. ⌜ now (file .exit) ≡ bufferOf (writeOf (stateAt (now (words .entry))) version (length (now (file .entry)))) (now (file .entry)) ⌝ }
+{
+    wpl::write_from(
+        c_state::head_at(words),
+        c_state::progress_at(words),
+        &words[c_state::NORTHS..c_state::EASTS],
+        &words[c_state::EASTS..c_state::DOWNS],
+        &words[c_state::DOWNS..c_state::COURSES],
+        &words[c_state::COURSES..c_state::STATE],
+        version,
+        file,
+    )
+}
+
+// Writes the plan of a state as a file of a version. Refused, nothing of the file is written.
 #[no_mangle]
 pub extern "C" fn farnkuppel_write(
-    state: &[u32],
+    state: &[i32],
     version: u32,
     file: &mut [u8],
     answer: &mut [u32],
@@ -145,20 +170,17 @@ pub extern "C" fn farnkuppel_write(
     if !fits(state.len(), answer.len(), WRITE) {
         return refusals::MISFIT as u32;
     }
-    let taken = states::take_state(state);
-    if taken.refusal != 0 {
-        let number = taken.refusal as u32;
-        put_three(number, 0, 0, answer);
-        return number;
+    if !c_state::holds_state(state) {
+        buffers::put_words(&[refusals::NO_STATE as u32, 0, 0], answer);
+        return refusals::NO_STATE as u32;
     }
-    let held = taken.state;
-    let written = wpl::write(held, version, file);
+    let written = write_at(state, version, file);
     let number = written.refusal as u32;
-    put_three(
+    let values = [
         number,
-        words::word(written.place),
-        words::word(written.length),
-        answer,
-    );
+        c_answer::word(written.place),
+        c_answer::word(written.length),
+    ];
+    buffers::put_words(&values, answer);
     number
 }

@@ -59,3 +59,17 @@ joined at first new old {now} {back} e f g = lent at new now back g ∙ ap (spli
 -- from the front on
 pub at-front : {A : Type 0} (new old : List A) → splice 0 new old ≡ over new old
 at-front new old = let e : 0 + length new ≡ length new = omega arith in rw e
+
+-- ---- what stands in a buffer, put where it stands
+some-length : {A : Type 0} (at k : ℕ) (old : List A) → at + k ≤ length old → length (take k (drop at old)) ≡ k
+some-length at k old h = length-take-le k (drop at old) (simp length-drop (omega arith))
+
+pub put-there : {A : Type 0} (at k : ℕ) (old : List A) → at + k ≤ length old → splice at (take k (drop at old)) old ≡ old
+put-there at k old h = rw (some-length at k old h, ← drop-drop k at old, take-append-drop k (drop at old)) (take-append-drop at old)
+
+-- behind `first`
+pub followed : {A : Type 0} (at k : ℕ) (first old : List A) → length first ≡ at → at + k ≤ length old
+    → over (first ++ take k (drop at old)) old ≡ first ++ drop at old
+followed at k first old e h =
+    let n = length-append first (take k (drop at old)) ∙ (λ t. e t + some-length at k old h t) in
+    rw (n, ← drop-drop k at old, append-assoc first (take k (drop at old)), take-append-drop k (drop at old))

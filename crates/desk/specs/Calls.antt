@@ -7,13 +7,14 @@ use Prim.Native.Nat.{ℕ}
 use lib.Dec.{leb}
 use lib.ListN.{length}
 use Rattle.integers.specs.Choose.{choose}
+use Rattle.refusals.specs.Numbers.{misfit}
 use Rattle.refusals.specs.Sweep.{both}
 use Rattle.buffers.specs.Splice.{over}
-use Rattle.refusals.specs.Numbers.{misfit}
+use Rattle.records.specs.Kinds.{noteRow}
 
 -- "128 note: 1..32 bytes"
 abbrev pub mostNote : ℕ
-mostNote = 32
+mostNote = noteRow .high
 
 -- ---- the lengths of the buffer and of the answer: a buffer that has room for any note, so that whether it fits does not depend on the file
 unfoldable pub noteFits : ℕ → ℕ → Bool

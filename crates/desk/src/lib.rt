@@ -1,24 +1,31 @@
 // The desk's check of a plan file and the notes of one, for C (document 01: "The desk's C program gets the refusal number of a file for a reader
 // version, 0 if it loads"). The header is include/farnkuppel.h.
 ghost use mathlib.Core.Path.{_≡_};
-ghost use Prim.Native.Nat.{_≤_};
 ghost use lib.ListN.{length};
-ghost use Rattle.buffers.specs.Splice.{over};
+ghost use Rattle.c_answer.specs.Words.{interface};
 ghost use Rattle.wpl.specs.Load.{loadOf, loadedOf};
 ghost use Rattle.wpl.specs.Note.{noteOf};
 ghost use Rattle.desk.specs.Calls.{noteFits, noteResult, noteBuffer, noteAnswer};
 
 // The most bytes of a note, and the words of the answer to a note.
-const MOST_NOTE: usize = 32;
+const MOST_NOTE: usize = records::NOTE.high;
 
 const NOTE: usize = 1;
+
+// The number of this interface, by which a caller knows that the archive and the header belong together.
+#[no_mangle]
+pub extern "C" fn farnkuppel_interface() -> u32
+    ensures { λ r. ⌜ r ≡ interface ⌝ }
+{
+    c_answer::INTERFACE
+}
 
 // The number of the first refusal, 0 if the file loads.
 #[no_mangle]
 pub extern "C" fn farnkuppel_refusal(file: &[u8], reader: u32) -> u32
     ensures { λ r. ⌜ r ≡ loadedOf (loadOf reader (now (file .entry))) .refusal ⌝ }
 {
-    wpl::load(file, reader).refusal as u32
+    wpl::refusal(file, reader) as u32
 }
 
 // Whether a buffer has room for any note, and an answer its length.
@@ -29,18 +36,6 @@ fn fits(buffer: usize, answer: usize) -> bool
         return NOTE <= answer;
     }
     false
-}
-
-// Bytes at the front of a part.
-fn put_bytes(bytes: &[u8], part: &mut [u8])
-    requires { ⌜ length (now bytes) ≤ length (now part) ⌝ }
-    ensures { λ _. ⌜ now (part .exit) ≡ over (now (bytes .entry)) (now (part .entry)) ⌝ }
-{
-    let mut i: usize = 0;
-    while i < bytes.len() {
-        part[i] = bytes[i];
-        i += 1;
-    }
 }
 
 // The bytes of a note, by its number from 1, and how many they are: none where the newest reader refuses the file or there is no such note.
@@ -59,7 +54,7 @@ pub extern "C" fn farnkuppel_note(
         return refusals::MISFIT as u32;
     }
     let bytes = wpl::note(file, number as usize);
-    put_bytes(bytes, note);
+    buffers::put_bytes(bytes, note);
     answer[0] = bytes.len() as u32;
     0
 }

@@ -13,10 +13,11 @@ use guidance::Metres;
 use integers::signed;
 use libc::STDIN_FILENO;
 use manager::Answer;
+use manager::Progress;
 use manager::State;
+use plan::Head;
 use plan::Mode;
 use plan::Plan;
-use plane::Point;
 use records::u16_at;
 use records::u32_at;
 use units::Fix;
@@ -44,16 +45,6 @@ fn byte_at(s: &[u8], i: usize) -> u8 {
     0
 }
 
-fn point_at(s: &[u8], i: usize) -> Point
-    requires { ⌜ i ≤ 67000 ⌝ }
-{
-    Point {
-        north: signed(u32_at(s, i)),
-        east: signed(u32_at(s, i + 4)),
-        down: signed(u32_at(s, i + 8)),
-    }
-}
-
 fn fix_at(s: &[u8], i: usize) -> Fix
     requires { ⌜ i ≤ 67000 ⌝ }
 {
@@ -72,35 +63,30 @@ fn listed(s: &[u8], i: usize) -> usize
     if n <= plan::POINTS { n } else { plan::POINTS }
 }
 
-// The points of a state at i.
-fn points_at(s: &[u8], i: usize) -> [Point; plan::POINTS]
-    requires { ⌜ i ≤ 66000 ⌝ }
+// A number of each point of a state at i: the one so many bytes into the point.
+fn numbers_at(s: &[u8], i: usize, into: usize) -> [i32; plan::POINTS]
+    requires { ⌜ (i ≤ 66000) × (into ≤ 8) ⌝ }
 {
-    let nowhere = Point {
-        north: 0,
-        east: 0,
-        down: 0,
-    };
-    let mut points = [nowhere; plan::POINTS];
+    let mut numbers = [0i32; plan::POINTS];
     let list = i + TO_POINTS;
     let n = listed(s, list);
     let mut k: usize = 0;
     while k < n {
-        points[k] = point_at(s, list + 1 + 12 * k);
+        numbers[k] = signed(u32_at(s, list + 1 + into + 12 * k));
         k += 1;
     }
-    points
+    numbers
 }
 
 // The courses of a list at i.
-fn courses_at(s: &[u8], i: usize) -> [u16; plan::POINTS]
+fn courses_at(s: &[u8], i: usize) -> [i32; plan::POINTS]
     requires { ⌜ i ≤ 67000 ⌝ }
 {
-    let mut courses = [0u16; plan::POINTS];
+    let mut courses = [0i32; plan::POINTS];
     let n = listed(s, i);
     let mut k: usize = 0;
     while k < n {
-        courses[k] = u16_at(s, i + 1 + 2 * k);
+        courses[k] = u16_at(s, i + 1 + 2 * k) as i32;
         k += 1;
     }
     courses
@@ -136,21 +122,26 @@ fn past_courses(s: &[u8], i: usize) -> usize
 fn state_at(s: &[u8], i: usize) -> State
     requires { ⌜ i ≤ 66000 ⌝ }
 {
-    let plan = Plan {
+    let head = Head {
         serial: u32_at(s, i + 1),
         mode: mode_of(byte_at(s, i + 5)),
         radius: u16_at(s, i + 6),
         count: u16_at(s, i + 8) as usize,
-        points: points_at(s, i),
+    };
+    let plan = Plan {
+        head,
+        norths: numbers_at(s, i, 0),
+        easts: numbers_at(s, i, 4),
+        downs: numbers_at(s, i, 8),
         courses: courses_at(s, to_courses(s, i)),
     };
     let rest = past_courses(s, i);
-    State {
-        plan,
+    let progress = Progress {
         index: u16_at(s, rest) as usize,
         phase: byte_at(s, rest + 2),
         finished: byte_at(s, rest + 3) != 0,
-    }
+    };
+    State { plan, progress }
 }
 
 // The size of a state at i, 0 where its mode or a list's length is none that a state has.

@@ -23,7 +23,7 @@ use Rattle.wpl.specs.Header.{mostArea, versionOf, serialOf, areaOf, areaFits, h
 use Rattle.wpl.specs.Load.{recordsOf, partsOf, settleOf}
 use Rattle.wpl.proofs.HeaderLaws.{header-good, header-version, header-serial, header-records}
 use Rattle.flight.specs.Demand.{IsCut, Loads, IsLater, cutOut}
-use Rattle.flight.proofs.LoadLaws.{load-steps, steps-load}
+use Rattle.wpl.proofs.LoadStepLaws.{load-steps, steps-load}
 
 -- ---- what refusals 4 and 5 say of a header that they pass
 module _ (f : List ℕ) (passed : headerOf f ≡ good done) where

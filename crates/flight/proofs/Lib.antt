@@ -1,5 +1,4 @@
 pub mod RunLaws
-pub mod LoadLaws
 pub mod OlderLaws
 pub mod LaterLaws
 pub mod DemandLaws

@@ -13,8 +13,8 @@ use Rattle.buffers.specs.Splice.{over, splice}
 use Rattle.buffers.proofs.SpliceLaws.{further, unchanged, at-front}
 use Rattle.manager.specs.declared.State.{State}
 use Rattle.manager.specs.declared.Stepped.{Stepped}
-use Rattle.words.specs.Words.{answerWords, commandNumbers}
-use Rattle.words.proofs.WordLaws.{answer-length, command-length}
+use Rattle.c_answer.specs.Words.{answerWords, commandNumbers}
+use Rattle.c_answer.proofs.WordLaws.{answer-length, command-length}
 use Rattle.flight.specs.Run.{Named, stepBy, run}
 use Rattle.flight.specs.Flight.{namedAt, namedFrom, namedOf, answersOf, commandsOf, lastOf, fitsOf}
 

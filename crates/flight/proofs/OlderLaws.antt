@@ -18,7 +18,7 @@ use Rattle.records.proofs.VersionLaws.{older-refuses, older-takes}
 use Rattle.wpl.specs.Header.{versionOf}
 use Rattle.wpl.specs.Load.{recordsOf, partsOf, bodyOf}
 use Rattle.flight.specs.Demand.{IsOlder, Loads, RefusesAsTooNew}
-use Rattle.flight.proofs.LoadLaws.{Steps, load-body, load-steps, steps-load}
+use Rattle.wpl.proofs.LoadStepLaws.{Steps, load-body, load-steps, steps-load}
 
 -- ---- versions one and two are versions
 module _ (r : ℕ) where

@@ -12,7 +12,7 @@ use Rattle.units.specs.declared.Fix.{Fix}
 use Rattle.manager.specs.declared.State.{State}
 use Rattle.manager.specs.declared.Stepped.{Stepped}
 use Rattle.refusals.specs.Numbers.{misfit}
-use Rattle.words.specs.Words.{answerWords, commandNumbers}
+use Rattle.c_answer.specs.Words.{answerWords, commandNumbers}
 use Rattle.flight.specs.declared.Flown.{Flown}
 use Rattle.flight.specs.Run.{Named, run}
 

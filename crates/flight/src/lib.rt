@@ -28,8 +28,8 @@ fn fits(count: usize, fixes: usize, answers: usize, commands: usize) -> bool
 {
     if fixes % FIX == 0 {
         if fixes / FIX == count {
-            if count <= answers / words::ANSWER {
-                return count <= commands / words::COMMAND;
+            if count <= answers / c_answer::ANSWER {
+                return count <= commands / c_answer::COMMAND;
             }
         }
     }
@@ -68,8 +68,8 @@ fn fly_all(
         let stepped = state.step(serials[i], fix_at(fixes, i));
         let answer = stepped.answer;
         let command = answer.command;
-        words::put_answer_at(answer, words::ANSWER * i, answers);
-        words::put_command_at(command, words::COMMAND * i, commands);
+        c_answer::put_answer_at(answer, c_answer::ANSWER * i, answers);
+        c_answer::put_command_at(command, c_answer::COMMAND * i, commands);
         let next = stepped.state;
         state = next;
         i += 1;

@@ -50,7 +50,7 @@ const COMMANDS: usize = 1536;
 // More fixes than any file has: a proved loop has to end.
 const MOST_FIXES: u64 = 1152921504606846976;
 
-// The words of an answer, in the order of words::put_answer.
+// The words of an answer, in the order of c_answer::put_answer.
 const REFUSAL: usize = 0;
 
 const PLACE: usize = 1;
@@ -243,7 +243,7 @@ fn write_command(kind: u32, sense: u32, numbers: &[f32])
 {
     if kind == LINE {
         write(b" line");
-        write_floats(numbers, words::COMMAND);
+        write_floats(numbers, c_answer::COMMAND);
     } else if kind == CIRCLE {
         write(b" circle");
         write_floats(numbers, CIRCLE_NUMBERS);
@@ -283,8 +283,8 @@ fn show_all(flown: u64, count: usize, answers: &[u32], commands: &[f32])
 {
     let mut i: usize = 0;
     while i < count {
-        let answer = words::ANSWER * i;
-        let command = words::COMMAND * i;
+        let answer = c_answer::ANSWER * i;
+        let command = c_answer::COMMAND * i;
         i += 1;
         show(flown + i as u64, &answers[answer..], &commands[command..]);
     }

@@ -3,6 +3,7 @@ use console::write;
 use console::write_decimal;
 use console::write_signed;
 use libc::STDIN_FILENO;
+use plan::Head;
 use plan::Mode;
 use plan::Plan;
 use plane::Point;
@@ -19,11 +20,11 @@ fn write_mode(mode: Mode) {
 }
 
 // The course of a place, or a dash where the plan has no courses.
-fn write_course(mode: Mode, course: u16) {
+fn write_course(mode: Mode, course: i32) {
     match mode {
         Mode::Lines => write(b"-"),
         Mode::Fillets => write(b"-"),
-        Mode::Dubins => write_decimal(course as u64),
+        Mode::Dubins => write_signed(course),
     }
 }
 
@@ -39,31 +40,34 @@ fn write_point(place: usize, point: Point) {
     write(b" ");
 }
 
-fn write_title(version: u16, plan: Plan) {
+fn write_title(version: u16, head: Head) {
     write(b"plan ");
-    write_decimal(plan.serial as u64);
+    write_decimal(head.serial as u64);
     write(b" version ");
     write_decimal(version as u64);
     write(b" mode ");
-    let mode = plan.mode;
+    let mode = head.mode;
     write_mode(mode);
     write(b" points ");
-    write_decimal(plan.count as u64);
+    write_decimal(head.count as u64);
     write(b"\n");
 }
 
 // A line for each point.
 fn write_points(plan: Plan) {
-    let mode = plan.mode;
+    let head = plan.head;
+    let mode = head.mode;
     let mut i: usize = 0;
     while i < plan::POINTS {
-        if plan.count <= i {
+        if head.count <= i {
             return;
         }
-        let point = plan.points[i];
+        let north = plan.norths[i];
+        let east = plan.easts[i];
+        let down = plan.downs[i];
         let course = plan.courses[i];
         i += 1;
-        write_point(i, point);
+        write_point(i, Point { north, east, down });
         write_course(mode, course);
         write(b"\n");
     }
@@ -78,7 +82,8 @@ fn list(file: &[u8]) {
     }
     let state = loaded.state;
     let plan = state.plan;
-    write_title(records::u16_at(file, records::VERSION), plan);
+    let head = plan.head;
+    write_title(records::u16_at(file, records::VERSION), head);
     write_points(plan);
 }
 

@@ -1,11 +1,11 @@
--- What `guideOf` gives in each mode, on the last leg and before it. Assumes nothing.
+-- What `guideOf` gives lines and fillets on the last leg, and Dubins plans on every leg. Assumes nothing.
 use mathlib.Core.Path.{_≡_}
 use mathlib.Core.Bool.{true, false}
 use Prim.Native.Nat.{ℕ, _-_}
 use Rattle.integers.specs.Choose.{choose}
 use Rattle.plane.specs.declared.Point.{Point}
 use Rattle.dubins.specs.Choice.{shortestOf}
-use Rattle.guidance.specs.Guide.{lineGuide, filletGuide, lastLegGuide}
+use Rattle.guidance.specs.Guide.{lastLegGuide}
 use Rattle.plan.specs.declared.Mode.{Mode}
 use Rattle.plan.specs.declared.Mode.the-variants.{Lines, Fillets, Dubins}
 use Rattle.plan.specs.declared.Plan.{Plan}
@@ -14,23 +14,13 @@ use Rattle.manager.specs.State.{onLastLeg}
 use Rattle.manager.specs.Step.{endsOf, pathGuide, guideOf}
 
 module _ {m : Mode} (plan : Plan) (i phase : ℕ) (p : Point) where
-  pub lines-last : m ≡ Lines → onLastLeg (plan .count) i ≡ true → guideOf m plan i phase p ≡ lastLegGuide false (pointOf plan (i - 2)) (pointOf plan (i - 1)) p
+  pub lines-last : m ≡ Lines → onLastLeg (plan .head .count) i ≡ true → guideOf m plan i phase p ≡ lastLegGuide false (pointOf plan (i - 2)) (pointOf plan (i - 1)) p
   unfolding guideOf choose
   lines-last e t = rw (e, t)
 
-  pub lines-before : m ≡ Lines → onLastLeg (plan .count) i ≡ false
-      → guideOf m plan i phase p ≡ lineGuide (pointOf plan (i - 2)) (pointOf plan (i - 1)) (pointOf plan i) p
-  unfolding guideOf choose
-  lines-before e t = rw (e, t)
-
-  pub fillets-last : m ≡ Fillets → onLastLeg (plan .count) i ≡ true → guideOf m plan i phase p ≡ lastLegGuide true (pointOf plan (i - 2)) (pointOf plan (i - 1)) p
+  pub fillets-last : m ≡ Fillets → onLastLeg (plan .head .count) i ≡ true → guideOf m plan i phase p ≡ lastLegGuide true (pointOf plan (i - 2)) (pointOf plan (i - 1)) p
   unfolding guideOf choose
   fillets-last e t = rw (e, t)
-
-  pub fillets-before : m ≡ Fillets → onLastLeg (plan .count) i ≡ false
-      → guideOf m plan i phase p ≡ filletGuide (pointOf plan (i - 2)) (pointOf plan (i - 1)) (pointOf plan i) (plan .radius) phase p
-  unfolding guideOf choose
-  fillets-before e t = rw (e, t)
 
   pub dubins-everywhere : m ≡ Dubins → guideOf m plan i phase p ≡ pathGuide (endsOf plan i) phase p (shortestOf (endsOf plan i))
   unfolding guideOf

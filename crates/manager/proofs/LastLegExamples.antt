@@ -33,9 +33,10 @@ use Rattle.guidance.specs.Guide.{fromOf, legGuide, lineGuide, circleGuide, past
 use Rattle.plan.specs.declared.Mode.{Mode}
 use Rattle.plan.specs.declared.Mode.the-variants.{Lines, Fillets, Dubins}
 use Rattle.plan.specs.declared.Plan.{Plan}
-use Rattle.plan.specs.Limits.{mostPoints, withinOf, insideOf, inAreaOf, zeroOf, arcRadius, radiusFits}
-use Rattle.plan.specs.Places.{noPoint, padded}
-use Rattle.plan.specs.Rules.{coursesFit, pairNumber, cornerNumber, tangentAt, tangentNumber, endsNumber, legNumber, pairsOf, cornersOf, legsOf, geometryOn, rulesOn}
+use Rattle.plan.specs.Limits.{betweenOf, insideOf, inAreaOf, zeroOf, arcRadius, radiusFits}
+use Rattle.plan.specs.Places.{padded}
+use Rattle.plan.specs.Loaded.{planOf}
+use Rattle.plan.specs.Rules.{modeOf, coursesFit, pairNumber, cornerNumber, tangentAt, tangentNumber, endsNumber, legNumber, pairsOf, cornersOf, legsOf, geometryOn, rulesOn}
 use Rattle.plan.specs.Stands.{givenOf, pointFits, courseFits, valuesFit, placeFits, placesFit, standsOf}
 use Rattle.manager.specs.declared.State.{State}
 use Rattle.manager.specs.declared.Answer.{Answer}
@@ -51,12 +52,12 @@ points = point 0 0 0 ∷ point 1000 0 0 ∷ point 1000 1000 500 ∷ []
 
 -- the plan of a mode, with serial 7
 abbrev pub plan : Mode → Plan
-plan Lines = record { serial = 7; mode = Lines; radius = 0; count = 3; points = padded mostPoints noPoint points; courses = padded mostPoints 0 [] }
-plan Fillets = record { serial = 7; mode = Fillets; radius = 100; count = 3; points = padded mostPoints noPoint points; courses = padded mostPoints 0 [] }
-plan Dubins = record { serial = 7; mode = Dubins; radius = 100; count = 3; points = padded mostPoints noPoint points; courses = padded mostPoints 0 (0 ∷ 0 ∷ 1024 ∷ []) }
+plan Lines = planOf 7 0 points []
+plan Fillets = planOf 7 100 points []
+plan Dubins = planOf 7 100 points (0 ∷ 0 ∷ 1024 ∷ [])
 
 abbrev pub state : Mode → ℕ → ℕ → Bool → State
-state mode index phase finished = record { plan = plan mode; index = index; phase = phase; finished = finished }
+state mode index phase finished = record { plan = plan mode; progress = record { index = index; phase = phase; finished = finished } }
 
 -- fixes by the patterns of their floats
 abbrev pub fixAt : ℕ → ℕ → ℕ → Fix
@@ -97,7 +98,7 @@ pub data Example : Type 0 where
 abbrev pub Holds : Example → Type 0
 Holds (leaves s fix said) = briefOf (answer s fix) ≡ said
 Holds (leads s fix a b) = answer s fix .command ≡ lineCommand a b
-Holds (ends s fix) = stepOf s 7 fix .state .finished ≡ true
+Holds (ends s fix) = stepOf s 7 fix .state .progress .finished ≡ true
 Holds (keeps s fix) = stepOf s 7 fix .state ≡ s
 
 abbrev pub All : List Example → Type 0
@@ -148,7 +149,7 @@ finishing =
     ∷ []
 
 pub each : (All passing × All ending) × (All refusing × All finishing)
-unfolding choose nextRoot rootBy rootOf nearestOf wrapOf check andThen isGood sweep both every series scaledSine sineOf cross quarter turned directionOf edgeNorth edgeEast reaches climb bearingIn bearingBy bearingOf offsetOf legOf levelOf plus minus levelLegOf dotOf squareOf lengthOf sidewaysOf dot3Of square3Of halfPlane metOf minorSize crossSize oppositeOf decimetresOf inLimit allInLimit positionOf ofBits lesserTurn turnBetween turnOf tangentOf rightOf roundedOf cornerOf fromOf legGuide lineGuide circleGuide pastOf filletLine filletCircle filletGuide legEnded lastLegGuide withinOf insideOf inAreaOf zeroOf arcRadius radiusFits padded coursesFit pairNumber cornerNumber tangentAt tangentNumber legNumber pairsOf cornersOf legsOf geometryOn rulesOn givenOf pointFits courseFits valuesFit placeFits placesFit standsOf lastIndex onLastLeg lastPhase atEnd indexFits phaseFits endFits placedOf validOf guideOf nextOf refuseOf movedOf locatedStep stepOf startsRight endsRight sameSide centreOf circlesOf tangentExists hasPathOf farApart endsNumber
+unfolding choose nextRoot rootBy rootOf nearestOf wrapOf check andThen isGood sweep both every series scaledSine sineOf cross quarter turned directionOf edgeNorth edgeEast reaches climb bearingIn bearingBy bearingOf offsetOf legOf levelOf plus minus levelLegOf dotOf squareOf lengthOf sidewaysOf dot3Of square3Of halfPlane metOf minorSize crossSize oppositeOf decimetresOf inLimit allInLimit positionOf ofBits lesserTurn turnBetween turnOf tangentOf rightOf roundedOf cornerOf fromOf legGuide lineGuide circleGuide pastOf filletLine filletCircle filletGuide legEnded lastLegGuide betweenOf insideOf inAreaOf zeroOf arcRadius radiusFits padded modeOf coursesFit pairNumber cornerNumber tangentAt tangentNumber legNumber pairsOf cornersOf legsOf geometryOn rulesOn givenOf pointFits courseFits valuesFit placeFits placesFit standsOf lastIndex onLastLeg lastPhase atEnd indexFits phaseFits endFits placedOf validOf guideOf nextOf refuseOf movedOf locatedStep stepOf startsRight endsRight sameSide centreOf circlesOf tangentExists hasPathOf farApart endsNumber
 each = (
   ((refl, (refl, (refl, tt))), (refl, (refl, (refl, (refl, (refl, (refl, (refl, (refl, (refl, tt)))))))))),
   (

@@ -1,26 +1,26 @@
 -- Laws of one fix: which answer when; a refused fix returns its state; a step keeps the plan, its serial and validity. Assumes nothing.
-use mathlib.Core.Path.{_≡_, refl, sym, ap, _∙_}
+use mathlib.Core.Path.{_≡_, refl, ap, _∙_}
 use mathlib.Core.Bool.{Bool, true, false}
 use Prim.Native.Nat.{ℕ, _+_, _<_}
 use native.Mathlib.Omega.{arith}
-use lib.Dec.{eqb, leb, ltb}
-use borrow.Author.Tests.{leb-true, ltb-true, ltb-false, le-leb, eq-eqb, ne-eqb}
+use lib.Dec.{eqb, ltb}
+use borrow.Author.Tests.{ltb-true, ltb-false, le-leb, eq-eqb, ne-eqb}
 use Rattle.integers.specs.Choose.{choose}
-use Rattle.refusals.specs.Sweep.{both}
 use Rattle.integers.proofs.ChooseLaws.{choose-true, choose-false}
-use Rattle.refusals.proofs.Bools.{by-bool, clash, both-off, both-off-second, both-first, both-second, both-true}
+use Rattle.refusals.proofs.Bools.{by-bool, clash, both-off, both-off-second, both-true}
 use Rattle.plane.specs.declared.Point.{Point}
 use Rattle.units.specs.declared.Fix.{Fix}
 use Rattle.units.specs.declared.Position.{Position}
 use Rattle.units.specs.declared.Position.the-variants.{At, Nowhere}
 use Rattle.units.specs.Position.{positionOf}
+use Rattle.plan.specs.declared.Mode.{Mode}
 use Rattle.plan.specs.declared.Plan.{Plan}
-use Rattle.plan.specs.Stands.{standsOf}
+use Rattle.manager.specs.declared.Progress.{Progress}
 use Rattle.manager.specs.declared.State.{State}
 use Rattle.manager.specs.declared.Stepped.{Stepped}
-use Rattle.manager.specs.State.{lastIndex, onLastLeg, lastPhase, lastPhaseHere, atEnd, indexFits, phaseFits, endFits, placedOf, validOf}
-use Rattle.manager.specs.Step.{guideHere, nextOf, refuseOf, movedOf, locatedStep, stepOf}
-use Rattle.manager.proofs.StateLaws.{valid-stands, valid-placed, before-last, phase-one}
+use Rattle.manager.specs.State.{lastIndex, onLastLeg, lastPhase, atEnd, indexFits, phaseFits, endFits, placedOf, validOf}
+use Rattle.manager.specs.Step.{guideHere, nextOf, nextHere, refuseOf, movedOf, locatedStep, stepOf}
+use Rattle.manager.proofs.StateLaws.{index-fits, phase-fits, end-fits, index-least, index-last, phase-last, valid-stands, valid-placed, before-last, phase-one}
 
 -- ---- which answer when
 module _ (s : State) (serial : ℕ) (fix : Fix) where
@@ -28,26 +28,29 @@ module _ (s : State) (serial : ℕ) (fix : Fix) where
   unfolding stepOf choose
   step-14 h = rw h
 
-  pub step-15 : validOf s ≡ true → eqb serial (s .plan .serial) ≡ false → stepOf s serial fix ≡ refuseOf s 15
+  pub step-15 : validOf s ≡ true → eqb serial (s .plan .head .serial) ≡ false → stepOf s serial fix ≡ refuseOf s 15
   unfolding stepOf choose
   step-15 h k = rw (h, k)
 
-  step-located : validOf s ≡ true → eqb serial (s .plan .serial) ≡ true → stepOf s serial fix ≡ locatedStep s (positionOf fix)
+  pub step-located : validOf s ≡ true → eqb serial (s .plan .head .serial) ≡ true → stepOf s serial fix ≡ locatedStep s (positionOf fix)
   unfolding stepOf choose
   step-located h k = rw (h, k)
 
-  pub step-13 : validOf s ≡ true → eqb serial (s .plan .serial) ≡ true → positionOf fix ≡ Nowhere → stepOf s serial fix ≡ refuseOf s 13
+  pub step-13 : validOf s ≡ true → eqb serial (s .plan .head .serial) ≡ true → positionOf fix ≡ Nowhere → stepOf s serial fix ≡ refuseOf s 13
   unfolding locatedStep
   step-13 h k e = step-located h k ∙ ap (locatedStep s) e
 
-  pub step-moved : validOf s ≡ true → eqb serial (s .plan .serial) ≡ true → (p : Point) → positionOf fix ≡ At p → stepOf s serial fix ≡ movedOf s p
+  pub step-moved : validOf s ≡ true → eqb serial (s .plan .head .serial) ≡ true → (p : Point) → positionOf fix ≡ At p → stepOf s serial fix ≡ movedOf s p
   unfolding locatedStep
   step-moved h k p e = step-located h k ∙ ap (locatedStep s) e
 
 -- ---- what a step may do to a state: it stays, or it moves on
+abbrev pub onward : State → Bool → State
+onward s passed = record { plan = s .plan; progress = nextHere s passed }
+
 pub data Goes (s : State) : State → Type 0 where
   stays : Goes s s
-  moves : (passed : Bool) → Goes s (nextOf s passed)
+  moves : (passed : Bool) → Goes s (onward s passed)
 
 refuse-goes : (s : State) (number : ℕ) → Goes s (refuseOf s number .state)
 unfolding refuseOf
@@ -66,7 +69,7 @@ choose-goes s false x y h k = k
 pub step-goes : (s : State) (serial : ℕ) (fix : Fix) → Goes s (stepOf s serial fix .state)
 unfolding stepOf
 step-goes s serial fix =
-    choose-goes s (validOf s) _ _ (choose-goes s (eqb serial (s .plan .serial)) _ _ (located-goes s (positionOf fix)) (refuse-goes s 15)) (refuse-goes s 14)
+    choose-goes s (validOf s) _ _ (choose-goes s (eqb serial (s .plan .head .serial)) _ _ (located-goes s (positionOf fix)) (refuse-goes s 15)) (refuse-goes s 14)
 
 -- a refused fix returns its state
 located-refused : (s : State) (position : Position) → (locatedStep s position .answer .refusal ≡ 0 → ⊥) → locatedStep s position .state ≡ s
@@ -88,114 +91,86 @@ pub step-refused : (s : State) (serial : ℕ) (fix : Fix) → (stepOf s serial f
 unfolding stepOf
 step-refused s serial fix =
     choose-refused s (validOf s) _ _
-    (choose-refused s (eqb serial (s .plan .serial)) _ _ (located-refused s (positionOf fix)) (λ h. refuse-state s 15)) (λ h. refuse-state s 14)
+    (choose-refused s (eqb serial (s .plan .head .serial)) _ _ (located-refused s (positionOf fix)) (λ h. refuse-state s 15)) (λ h. refuse-state s 14)
 
 -- ---- a step keeps the plan, and so its serial
-next-plan : (s : State) (passed : Bool) → nextOf s passed .plan ≡ s .plan
-unfolding nextOf choose
-next-plan s false = refl
-next-plan s true =
-    by-bool (ltb (s .phase) (lastPhaseHere s)) (λ t. rw t)
-    (λ t. by-bool (onLastLeg (s .plan .count) (s .index)) (λ u. rw (t, u)) (λ u. rw (t, u)))
-
 goes-plan : {s t : State} → Goes s t → t .plan ≡ s .plan
 goes-plan stays = refl
-goes-plan {s} (moves passed) = next-plan s passed
+goes-plan (moves passed) = refl
 
 pub step-plan : (s : State) (serial : ℕ) (fix : Fix) → stepOf s serial fix .state .plan ≡ s .plan
 step-plan s serial fix = goes-plan (step-goes s serial fix)
 
-pub step-serial : (s : State) (serial : ℕ) (fix : Fix) → stepOf s serial fix .state .plan .serial ≡ s .plan .serial
-step-serial s serial fix = ap (λ (p : Plan). p .serial) (step-plan s serial fix)
+pub step-serial : (s : State) (serial : ℕ) (fix : Fix) → stepOf s serial fix .state .plan .head .serial ≡ s .plan .head .serial
+step-serial s serial fix = ap (λ (p : Plan). p .head .serial) (step-plan s serial fix)
 
 -- ---- and validity
-abbrev at : State → ℕ → ℕ → Bool → State
-at s index phase finished = record { plan = s .plan; index = index; phase = phase; finished = finished }
+abbrev at : ℕ → ℕ → Bool → Progress
+at index phase finished = record { index = index; phase = phase; finished = finished }
 
-going : (s : State) → s .finished ≡ false → endFits s ≡ true
-unfolding endFits
-going s h = choose-false (s .finished) (atEnd s) true h
+module _ (mode : Mode) (n : ℕ) (p : Progress) where
+  going : p .finished ≡ false → endFits mode n p ≡ true
+  unfolding endFits
+  going h = rw choose-false
 
-ended : (s : State) → atEnd s ≡ true → endFits s ≡ true
-unfolding endFits
-ended s h = by-bool (s .finished) (λ t. choose-true (s .finished) (atEnd s) true t ∙ h) (λ t. choose-false (s .finished) (atEnd s) true t)
+  ended : atEnd mode n p ≡ true → endFits mode n p ≡ true
+  unfolding endFits
+  ended h = by-bool (p .finished) (λ t. rw choose-true h) (λ t. rw choose-false)
 
--- a finished state is at its end, so one that is not there is not finished
-unfinished : (s : State) → endFits s ≡ true → atEnd s ≡ false → s .finished ≡ false
-unfolding endFits
-unfinished s h e = by-bool (s .finished) (λ t. clash (atEnd s) (sym (choose-true (s .finished) (atEnd s) true t) ∙ h) e) (λ t. t)
+  -- a finished flight is at its end, so one that is not there is not finished
+  unfinished : endFits mode n p ≡ true → atEnd mode n p ≡ false → p .finished ≡ false
+  unfolding endFits
+  unfinished h e = by-bool (p .finished) (λ t. clash (atEnd mode n p) (rw choose-true at h) e) (λ t. t)
 
-placed : (s : State) → indexFits s ≡ true → phaseFits s ≡ true → endFits s ≡ true → placedOf s ≡ true
-unfolding placedOf
-placed s a b c = both-true (indexFits s) (both (phaseFits s) (endFits s)) a (both-true (phaseFits s) (endFits s) b c)
-
-module _ (s : State) (h : placedOf s ≡ true) where
-  index-fits : indexFits s ≡ true
+  placed : indexFits n p ≡ true → phaseFits mode n p ≡ true → endFits mode n p ≡ true → placedOf mode n p ≡ true
   unfolding placedOf
-  index-fits = both-first (indexFits s) (both (phaseFits s) (endFits s)) h
+  placed a b c = both-true _ _ a (both-true _ _ b c)
 
-  rest-fits : both (phaseFits s) (endFits s) ≡ true
-  unfolding placedOf
-  rest-fits = both-second (indexFits s) (both (phaseFits s) (endFits s)) h
-
-  phase-fits : phaseFits s ≡ true
-  phase-fits = both-first (phaseFits s) (endFits s) rest-fits
-
-  pub end-fits : endFits s ≡ true
-  end-fits = both-second (phaseFits s) (endFits s) rest-fits
-
-  abbrev last : ℕ
-  last = lastIndex (s .plan .count)
-
+module _ (mode : Mode) (n : ℕ) (p : Progress) (h : placedOf mode n p ≡ true) where
   abbrev on-last : Bool
-  on-last = onLastLeg (s .plan .count) (s .index)
+  on-last = onLastLeg n (p .index)
+
+  abbrev last-phase : ℕ
+  last-phase = lastPhase mode n (p .index)
 
   -- the next phase
-  phase-placed : ltb (s .phase) (lastPhaseHere s) ≡ true
-      → placedOf (at s (s .index) (s .phase + 1) (s .finished)) ≡ true
+  phase-placed : ltb (p .phase) last-phase ≡ true → placedOf mode n (at (p .index) (p .phase + 1) (p .finished)) ≡ true
   unfolding indexFits phaseFits atEnd
   phase-placed t =
-      let l : s .phase < lastPhaseHere s = ltb-true (s .phase) (lastPhaseHere s) t in
-      let not-last : eqb (s .phase) (lastPhaseHere s) ≡ false = ne-eqb (s .phase) (lastPhaseHere s) (λ e. omega arith) in
-      let n : atEnd s ≡ false = both-off-second on-last (eqb (s .phase) (lastPhaseHere s)) not-last in
-      placed (at s (s .index) (s .phase + 1) (s .finished)) index-fits
-      (both-true (leb 1 (s .phase + 1)) (leb (s .phase + 1) (lastPhaseHere s)) (le-leb 1 (s .phase + 1) (omega arith)) (le-leb (s .phase + 1) (lastPhaseHere s) (omega arith)))
-      (going (at s (s .index) (s .phase + 1) (s .finished)) (unfinished s end-fits n))
+      let l : p .phase < last-phase = ltb-true (p .phase) last-phase t in
+      let k : atEnd mode n p ≡ false = both-off-second on-last _ (ne-eqb (p .phase) last-phase (λ e. omega arith)) in
+      placed mode n _ (index-fits mode n p h) (both-true _ _ (le-leb 1 (p .phase + 1) (omega arith)) (le-leb (p .phase + 1) last-phase (omega arith)))
+      (going mode n _ (unfinished mode n p (end-fits mode n p h) k))
 
   -- the end
-  end-placed : ltb (s .phase) (lastPhaseHere s) ≡ false → on-last ≡ true → placedOf (at s (s .index) (s .phase) true) ≡ true
+  end-placed : ltb (p .phase) last-phase ≡ false → on-last ≡ true → placedOf mode n (at (p .index) (p .phase) true) ≡ true
   unfolding indexFits phaseFits atEnd
   end-placed t u =
-      let a = ltb-false (s .phase) (lastPhaseHere s) t in
-      let b = leb-true (s .phase) (lastPhaseHere s) (both-second (leb 1 (s .phase)) (leb (s .phase) (lastPhaseHere s)) phase-fits) in
-      let e : s .phase ≡ lastPhaseHere s = omega arith in
-      placed (at s (s .index) (s .phase) true) index-fits phase-fits
-      (ended (at s (s .index) (s .phase) true) (both-true on-last (eqb (s .phase) (lastPhaseHere s)) u (eq-eqb (s .phase) (lastPhaseHere s) e)))
+      let e : p .phase ≡ last-phase = omega (arith, ltb-false (p .phase) last-phase t, phase-last mode n p h) in
+      placed mode n _ (index-fits mode n p h) (phase-fits mode n p h) (ended mode n _ (both-true _ _ u (eq-eqb (p .phase) last-phase e)))
 
   -- the next index
-  index-placed : on-last ≡ false → placedOf (at s (s .index + 1) 1 (s .finished)) ≡ true
+  index-placed : on-last ≡ false → placedOf mode n (at (p .index + 1) 1 (p .finished)) ≡ true
   unfolding indexFits phaseFits atEnd
   index-placed u =
-      let a = leb-true 2 (s .index) (both-first (leb 2 (s .index)) (leb (s .index) last) index-fits) in
-      let b = leb-true (s .index) last (both-second (leb 2 (s .index)) (leb (s .index) last) index-fits) in
-      let n : s .index < last = before-last (s .plan .count) (s .index) u b in
-      placed (at s (s .index + 1) 1 (s .finished))
-      (both-true (leb 2 (s .index + 1)) (leb (s .index + 1) last) (le-leb 2 (s .index + 1) (omega arith)) (le-leb (s .index + 1) last (omega arith)))
-      (both-true (leb 1 1) (leb 1 (lastPhase (s .plan .mode) (s .plan .count) (s .index + 1))) refl (le-leb 1 _ (phase-one (s .plan .mode) (s .plan .count) (s .index + 1))))
-      (going (at s (s .index + 1) 1 (s .finished)) (unfinished s end-fits (both-off on-last (eqb (s .phase) (lastPhaseHere s)) u)))
+      let a = index-least mode n p h in
+      let b : p .index < lastIndex n = before-last n (p .index) u (index-last mode n p h) in
+      placed mode n _ (both-true _ _ (le-leb 2 (p .index + 1) (omega arith)) (le-leb (p .index + 1) (lastIndex n) (omega arith)))
+      (both-true _ _ (le-leb 1 1 (omega arith)) (le-leb 1 _ (phase-one mode n (p .index + 1))))
+      (going mode n _ (unfinished mode n p (end-fits mode n p h) (both-off on-last _ u)))
 
-  next-placed : (passed : Bool) → placedOf (nextOf s passed) ≡ true
+  next-placed : (passed : Bool) → placedOf mode n (nextOf mode n p passed) ≡ true
   unfolding nextOf choose
   next-placed false = h
   next-placed true =
-      by-bool (ltb (s .phase) (lastPhaseHere s)) (λ t. rw t (phase-placed t))
+      by-bool (ltb (p .phase) last-phase) (λ t. rw t (phase-placed t))
       (λ t. by-bool on-last (λ u. rw (t, u) (end-placed t u)) (λ u. rw (t, u) (index-placed u)))
 
 goes-valid : {s t : State} → Goes s t → validOf s ≡ true → validOf t ≡ true
 unfolding validOf
 goes-valid stays h = h
 goes-valid {s} (moves passed) h =
-    both-true (standsOf (nextOf s passed .plan)) (placedOf (nextOf s passed)) (ap standsOf (next-plan s passed) ∙ valid-stands s h) (next-placed s (valid-placed s h) passed)
+    both-true _ _ (valid-stands s h) (next-placed (s .plan .head .mode) (s .plan .head .count) (s .progress) (valid-placed s h) passed)
 
 pub step-valid : (s : State) (serial : ℕ) (fix : Fix) → validOf s ≡ true → validOf (stepOf s serial fix .state) ≡ true
 step-valid s serial fix = goes-valid (step-goes s serial fix)

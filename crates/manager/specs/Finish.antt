@@ -14,11 +14,12 @@ use Rattle.manager.specs.State.{lastIndex, atEnd}
 
 -- point N; places are counted from 0
 abbrev pub lastPoint : Plan → Point
-lastPoint plan = pointOf plan (lastIndex (plan .count) - 1)
+lastPoint plan = pointOf plan (lastIndex (plan .head .count) - 1)
 
 -- what r, the answer to a fix on s, has to do with the end
 pub record Finishes (s : State) (fix : Fix) (r : Stepped) : Type 0 where
   -- at the last index and phase an accepted fix at the last point sets finished
-  pub sets : atEnd s ≡ true → positionOf fix ≡ At (lastPoint (s .plan)) → r .answer .refusal ≡ 0 → r .state .finished ≡ true
+  pub sets : atEnd (s .plan .head .mode) (s .plan .head .count) (s .progress) ≡ true → positionOf fix ≡ At (lastPoint (s .plan))
+      → r .answer .refusal ≡ 0 → r .state .progress .finished ≡ true
   -- once it is set, no fix unsets it, nor moves index or phase
-  pub stays : s .finished ≡ true → r .state ≡ s
+  pub stays : s .progress .finished ≡ true → r .state ≡ s

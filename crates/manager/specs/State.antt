@@ -1,29 +1,43 @@
 -- A state holds "serial, mode, radius, points, courses, index, phase and finished". The empty state, the start of a plan, and refusal 14.
 -- Assumes nothing.
 use mathlib.Core.Bool.{Bool, true, false}
-use mathlib.Core.List.{[]}
+use mathlib.Core.List.{List}
 use Prim.Native.Nat.{ℕ, _≤_}
 use lib.Dec.{eqb, leb}
+use lib.IntN.{ℤ, pos}
+use lib.ListN.{replicate}
 use Rattle.integers.specs.Choose.{choose}
 use Rattle.refusals.specs.Sweep.{both}
 use Rattle.plan.specs.declared.Mode.{Mode}
 use Rattle.plan.specs.declared.Mode.the-variants.{Lines, Fillets, Dubins}
+use Rattle.plan.specs.declared.Head.{Head}
 use Rattle.plan.specs.declared.Plan.{Plan}
 use Rattle.plan.specs.Limits.{mostPoints}
-use Rattle.plan.specs.Places.{noPoint, padded}
+use Rattle.plan.specs.Places.{seen}
 use Rattle.plan.specs.Stands.{standsOf, Stands}
+use Rattle.manager.specs.declared.Progress.{Progress}
 use Rattle.manager.specs.declared.State.{State}
 
 -- "The empty state is all zero, mode lines, with no points"
+abbrev pub zeros : List ℤ
+zeros = replicate mostPoints (pos 0)
+
 abbrev pub emptyPlan : Plan
-emptyPlan = record { serial = 0; mode = Lines; radius = 0; count = 0; points = padded mostPoints noPoint []; courses = padded mostPoints 0 [] }
+emptyPlan = seen (record { serial = 0; mode = Lines; radius = 0; count = 0 }) zeros zeros zeros zeros
 
 abbrev pub emptyState : State
-emptyState = record { plan = emptyPlan; index = 0; phase = 0; finished = false }
+emptyState = record { plan = emptyPlan; progress = record { index = 0; phase = 0; finished = false } }
 
 -- "A successful load gives index 2, phase 1, not finished."
+abbrev pub firstProgress : Progress
+firstProgress = record { index = 2; phase = 1; finished = false }
+
 abbrev pub startOf : Plan → State
-startOf p = record { plan = p; index = 2; phase = 1; finished = false }
+startOf p = record { plan = p; progress = firstProgress }
+
+-- the state of a head, a progress and lent numbers
+abbrev pub viewed : Head → Progress → List ℤ → List ℤ → List ℤ → List ℤ → State
+viewed h p norths easts downs courses = record { plan = seen h norths easts downs courses; progress = p }
 
 -- the last index of n points, in every mode: since request 4 lines and fillets fly up to point N too, as Dubins plans do
 unfoldable pub lastIndex : ℕ → ℕ
@@ -40,35 +54,32 @@ lastPhase Lines n i = 1
 lastPhase Fillets n i = choose (onLastLeg n i) 1 2
 lastPhase Dubins n i = 5
 
-abbrev pub lastPhaseHere : State → ℕ
-lastPhaseHere s = lastPhase (s .plan .mode) (s .plan .count) (s .index)
-
 -- at the last index and phase
-unfoldable pub atEnd : State → Bool
-atEnd s = both (onLastLeg (s .plan .count) (s .index)) (eqb (s .phase) (lastPhaseHere s))
+unfoldable pub atEnd : Mode → ℕ → Progress → Bool
+atEnd mode n p = both (onLastLeg n (p .index)) (eqb (p .phase) (lastPhase mode n (p .index)))
 
 -- refusal 14: "its index or phase isn't one the mode allows"
-unfoldable pub indexFits : State → Bool
-indexFits s = both (leb 2 (s .index)) (leb (s .index) (lastIndex (s .plan .count)))
+unfoldable pub indexFits : ℕ → Progress → Bool
+indexFits n p = both (leb 2 (p .index)) (leb (p .index) (lastIndex n))
 
-unfoldable pub phaseFits : State → Bool
-phaseFits s = both (leb 1 (s .phase)) (leb (s .phase) (lastPhaseHere s))
+unfoldable pub phaseFits : Mode → ℕ → Progress → Bool
+phaseFits mode n p = both (leb 1 (p .phase)) (leb (p .phase) (lastPhase mode n (p .index)))
 
 -- "or it is finished before the last index and phase"
-unfoldable pub endFits : State → Bool
-endFits s = choose (s .finished) (atEnd s) true
+unfoldable pub endFits : Mode → ℕ → Progress → Bool
+endFits mode n p = choose (p .finished) (atEnd mode n p) true
 
-unfoldable pub placedOf : State → Bool
-placedOf s = both (indexFits s) (both (phaseFits s) (endFits s))
+unfoldable pub placedOf : Mode → ℕ → Progress → Bool
+placedOf mode n p = both (indexFits n p) (both (phaseFits mode n p) (endFits mode n p))
 
 -- a state that 14 does not refuse
 unfoldable pub validOf : State → Bool
-validOf s = both (standsOf (s .plan)) (placedOf s)
+validOf s = both (standsOf (s .plan)) (placedOf (s .plan .head .mode) (s .plan .head .count) (s .progress))
 
 -- what it gives whoever flies it
 pub record Valid (s : State) : Type 0 where
   pub stands : Stands (s .plan)
-  pub least : 2 ≤ s .index
-  pub most : s .index ≤ lastIndex (s .plan .count)
-  pub first : 1 ≤ s .phase
-  pub last : s .phase ≤ lastPhaseHere s
+  pub least : 2 ≤ s .progress .index
+  pub most : s .progress .index ≤ lastIndex (s .plan .head .count)
+  pub first : 1 ≤ s .progress .phase
+  pub last : s .progress .phase ≤ lastPhase (s .plan .head .mode) (s .plan .head .count) (s .progress .index)

@@ -21,13 +21,15 @@ use Rattle.plan.specs.declared.Mode.the-variants.{Lines, Fillets, Dubins}
 use Rattle.plan.specs.declared.Plan.{Plan}
 use Rattle.plan.specs.Places.{pointOf, courseOf}
 use Rattle.plan.specs.Rules.{endsAt}
+use Rattle.manager.specs.declared.Progress.{Progress}
 use Rattle.manager.specs.declared.State.{State}
+use Rattle.manager.specs.declared.Decided.{Decided}
 use Rattle.manager.specs.declared.Stepped.{Stepped}
-use Rattle.manager.specs.State.{onLastLeg, lastPhaseHere, validOf}
+use Rattle.manager.specs.State.{onLastLeg, lastPhase, validOf}
 
 -- the leg that is flown at an index of a Dubins plan, "from point i−1 with course χs to point i with χe"; places are counted from 0
 abbrev pub endsOf : Plan → ℕ → Ends
-endsOf plan i = endsAt (plan .radius) (pointOf plan) (courseOf plan) (i - 2) (i - 1)
+endsOf plan i = endsAt (plan .head .radius) (pointOf plan) (courseOf plan) (i - 2) (i - 1)
 
 -- its guidance by the path that was worked out. A leg of a valid state has one (the law valid-path of proofs/StateLaws).
 unfoldable pub pathGuide : Ends → ℕ → Point → Found → Guidance
@@ -38,27 +40,31 @@ pathGuide ends phase p Missing = record { command = Nothing; heading = 0; passed
 -- no point behind it; lines and fillets have a rule of their own there (request 4), fillets in north and east.
 unfoldable pub guideOf : Mode → Plan → ℕ → ℕ → Point → Guidance
 guideOf Lines plan i phase p =
-    choose (onLastLeg (plan .count) i) (lastLegGuide false (pointOf plan (i - 2)) (pointOf plan (i - 1)) p)
+    choose (onLastLeg (plan .head .count) i) (lastLegGuide false (pointOf plan (i - 2)) (pointOf plan (i - 1)) p)
     (lineGuide (pointOf plan (i - 2)) (pointOf plan (i - 1)) (pointOf plan i) p)
 guideOf Fillets plan i phase p =
-    choose (onLastLeg (plan .count) i) (lastLegGuide true (pointOf plan (i - 2)) (pointOf plan (i - 1)) p)
-    (filletGuide (pointOf plan (i - 2)) (pointOf plan (i - 1)) (pointOf plan i) (plan .radius) phase p)
+    choose (onLastLeg (plan .head .count) i) (lastLegGuide true (pointOf plan (i - 2)) (pointOf plan (i - 1)) p)
+    (filletGuide (pointOf plan (i - 2)) (pointOf plan (i - 1)) (pointOf plan i) (plan .head .radius) phase p)
 guideOf Dubins plan i phase p = pathGuide (endsOf plan i) phase p (shortestOf (endsOf plan i))
 
 -- "at most one phase change follows": the next phase; after the last one the next i and phase 1, or at the last i it stays "and finished is set"
-unfoldable pub nextOf : State → Bool → State
-nextOf s passed =
+unfoldable pub nextOf : Mode → ℕ → Progress → Bool → Progress
+nextOf mode n p passed =
     choose passed
-    (choose (ltb (s .phase) (lastPhaseHere s))
-    (record { plan = s .plan; index = s .index; phase = s .phase + 1; finished = s .finished })
-    (choose (onLastLeg (s .plan .count) (s .index))
-    (record { plan = s .plan; index = s .index; phase = s .phase; finished = true })
-    (record { plan = s .plan; index = s .index + 1; phase = 1; finished = s .finished })))
-    s
+    (choose (ltb (p .phase) (lastPhase mode n (p .index)))
+    (record { index = p .index; phase = p .phase + 1; finished = p .finished })
+    (choose (onLastLeg n (p .index))
+    (record { index = p .index; phase = p .phase; finished = true })
+    (record { index = p .index + 1; phase = 1; finished = p .finished })))
+    p
+
+-- what is decided of a fix, with the plan that is flown on
+abbrev pub steppedBy : Plan → Decided → Stepped
+steppedBy plan d = record { answer = d .answer; state = record { plan = plan; progress = d .progress } }
 
 -- "refused, it gives no command, heading 0, and the given state's index, phase and finished"
-unfoldable pub refuseOf : State → ℕ → Stepped
-refuseOf s number =
+abbrev pub refusedAt : Progress → ℕ → Decided
+refusedAt p number =
     record {
       answer =
           record {
@@ -66,15 +72,18 @@ refuseOf s number =
             place = 0;
             command = Nothing;
             heading = 0;
-            index = s .index;
-            phase = s .phase;
-            finished = s .finished;
+            index = p .index;
+            phase = p .phase;
+            finished = p .finished;
           };
-      state = s;
+      progress = p;
     }
 
+unfoldable pub refuseOf : State → ℕ → Stepped
+refuseOf s number = steppedBy (s .plan) (refusedAt (s .progress) number)
+
 -- "The answer also has the heading for that command and the next state's index, phase, finished."
-abbrev pub answered : Guidance → State → Stepped
+abbrev pub answered : Guidance → Progress → Decided
 answered g next =
     record {
       answer =
@@ -87,14 +96,17 @@ answered g next =
             phase = next .phase;
             finished = next .finished;
           };
-      state = next;
+      progress = next;
     }
 
 abbrev pub guideHere : State → Point → Guidance
-guideHere s p = guideOf (s .plan .mode) (s .plan) (s .index) (s .phase) p
+guideHere s p = guideOf (s .plan .head .mode) (s .plan) (s .progress .index) (s .progress .phase) p
+
+abbrev pub nextHere : State → Bool → Progress
+nextHere s passed = nextOf (s .plan .head .mode) (s .plan .head .count) (s .progress) passed
 
 unfoldable pub movedOf : State → Point → Stepped
-movedOf s p = answered (guideHere s p) (nextOf s (guideHere s p .passed))
+movedOf s p = steppedBy (s .plan) (answered (guideHere s p) (nextHere s (guideHere s p .passed)))
 
 unfoldable pub locatedStep : State → Position → Stepped
 locatedStep s (At p) = movedOf s p
@@ -103,4 +115,4 @@ locatedStep s Nowhere = refuseOf s noPosition
 -- "A fix checks 14, 15, 13"
 unfoldable pub stepOf : State → ℕ → Fix → Stepped
 stepOf s serial fix =
-    choose (validOf s) (choose (eqb serial (s .plan .serial)) (locatedStep s (positionOf fix)) (refuseOf s otherSerial)) (refuseOf s noState)
+    choose (validOf s) (choose (eqb serial (s .plan .head .serial)) (locatedStep s (positionOf fix)) (refuseOf s otherSerial)) (refuseOf s noState)

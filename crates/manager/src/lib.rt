@@ -1,29 +1,43 @@
-// The state of a flight, and one fix at a time (document 01, "One fix" and refusals 13 to 15; request 4, the last leg).
+// The state of a flight, and one fix at a time (document 01, "One fix" and refusals 13 to 15; request 4, the last leg). A fix is decided over
+// a plan's small fields, how far it is flown, and its numbers, which are lent: nothing is copied.
 use dubins::Ends;
 use dubins::Found;
 use guidance::Command;
 use guidance::Guidance;
+use plan::Head;
 use plan::Mode;
 use plan::Plan;
 use plane::Point;
 use units::Fix;
 use units::Position;
 ghost use mathlib.Core.Path.{_≡_};
-ghost use mathlib.Core.Bool.{true};
-ghost use Prim.Native.Nat.{_<_};
+ghost use mathlib.Core.Bool.{true, false};
+ghost use Prim.Native.Nat.{_-_, _≤_, _<_};
+ghost use Rattle.integers.specs.Choose.{choose};
+ghost use Rattle.refusals.specs.Sweep.{both};
 ghost use Rattle.plane.specs.Area.{InArea};
+ghost use Rattle.fillets.specs.Corners.{turnOf};
 ghost use Rattle.dubins.specs.Limits.{IsEnds};
 ghost use Rattle.dubins.specs.Choice.{shortestOf};
-ghost use Rattle.manager.specs.State.{emptyState, startOf, lastIndex, onLastLeg, lastPhase, atEnd, indexFits, phaseFits, endFits, placedOf, validOf, Valid};
-ghost use Rattle.manager.specs.Step.{pathGuide, guideOf, nextOf, refuseOf, movedOf, stepOf};
+ghost use Rattle.guidance.specs.Guide.{lineGuide, filletGuide, lastLegGuide};
+ghost use Rattle.plan.specs.Limits.{mostPoints, mostRadius, mostTurn};
+ghost use Rattle.plan.specs.Places.{placeAt, courseAt, seen};
+ghost use Rattle.plan.specs.Stands.{Placed, Aiming, Long};
+ghost use Rattle.manager.specs.State.{emptyState, firstProgress, startOf, viewed, lastIndex, onLastLeg, lastPhase, atEnd, indexFits, phaseFits, endFits, placedOf, validOf, Valid};
+ghost use Rattle.manager.specs.Step.{pathGuide, guideHere, nextOf, steppedBy, refusedAt, answered, movedOf, stepOf};
 ghost use Rattle.manager.specs.Finish.{Finishes};
 
-// A plan and how far it is flown: the index of the point that is flown to, from 1, the phase there, and whether the end was reached.
-pub struct State {
-    pub plan: Plan,
+// How far a plan is flown: the index of the point that is flown to, from 1, the phase there, and whether the end was reached.
+pub struct Progress {
     pub index: usize,
     pub phase: u8,
     pub finished: bool,
+}
+
+// A plan and how far it is flown.
+pub struct State {
+    pub plan: Plan,
+    pub progress: Progress,
 }
 
 // What a fix is answered. The refusal is document 01's number, 0 for none.
@@ -37,6 +51,12 @@ pub struct Answer {
     pub finished: bool,
 }
 
+// The answer, and how far the plan is flown after it.
+pub struct Decided {
+    pub answer: Answer,
+    pub progress: Progress,
+}
+
 // The answer, and the state for the next fix.
 pub struct Stepped {
     pub answer: Answer,
@@ -47,24 +67,34 @@ pub struct Stepped {
 pub fn empty() -> State
     ensures { λ r. ⌜ r ≡ emptyState ⌝ }
 {
-    let nowhere = Point {
-        north: 0,
-        east: 0,
-        down: 0,
-    };
-    let points = [nowhere; plan::POINTS];
-    let plan = Plan {
+    let head = Head {
         serial: 0,
         mode: Mode::Lines,
         radius: 0,
         count: 0,
-        points,
-        courses: [0u16; plan::POINTS],
     };
-    State {
-        plan,
+    let plan = Plan {
+        head,
+        norths: [0i32; plan::POINTS],
+        easts: [0i32; plan::POINTS],
+        downs: [0i32; plan::POINTS],
+        courses: [0i32; plan::POINTS],
+    };
+    let progress = Progress {
         index: 0,
         phase: 0,
+        finished: false,
+    };
+    State { plan, progress }
+}
+
+// How far a plan is flown at its start.
+pub fn first() -> Progress
+    ensures { λ r. ⌜ r ≡ firstProgress ⌝ }
+{
+    Progress {
+        index: 2,
+        phase: 1,
         finished: false,
     }
 }
@@ -73,12 +103,8 @@ pub fn empty() -> State
 pub fn start(plan: Plan) -> State
     ensures { λ r. ⌜ r ≡ startOf plan ⌝ }
 {
-    State {
-        plan,
-        index: 2,
-        phase: 1,
-        finished: false,
-    }
+    let progress = first();
+    State { plan, progress }
 }
 
 // The last index of count points, in every mode.
@@ -106,71 +132,72 @@ fn last_phase(mode: Mode, count: usize, index: usize) -> u8
     }
 }
 
-// Whether a state is at the last index and phase.
-fn at_end(s: State) -> bool
-    ensures { λ r. ⌜ r ≡ atEnd s ⌝ }
+// Whether two tests pass.
+fn both(a: bool, b: bool) -> bool
+    ensures { λ r. ⌜ r ≡ both a b ⌝ }
 {
-    let p = s.plan;
-    let mode = p.mode;
-    if on_last_leg(p.count, s.index) {
-        s.phase == last_phase(mode, p.count, s.index)
-    } else {
-        false
-    }
+    if a { b } else { false }
+}
+
+// Whether a flight is at the last index and phase.
+fn at_end(mode: Mode, count: usize, p: Progress) -> bool
+    ensures { λ r. ⌜ r ≡ atEnd mode count p ⌝ }
+{
+    both(
+        on_last_leg(count, p.index),
+        p.phase == last_phase(mode, count, p.index),
+    )
 }
 
 // Whether the index is one that a plan has.
-fn index_fits(s: State) -> bool
-    ensures { λ r. ⌜ r ≡ indexFits s ⌝ }
+fn index_fits(count: usize, p: Progress) -> bool
+    ensures { λ r. ⌜ r ≡ indexFits count p ⌝ }
 {
-    let p = s.plan;
-    if s.index < 2 {
-        return false;
-    }
-    s.index <= last_index(p.count)
+    both(2 <= p.index, p.index <= last_index(count))
 }
 
 // Whether the phase is one that the mode allows at the index.
-fn phase_fits(s: State) -> bool
-    ensures { λ r. ⌜ r ≡ phaseFits s ⌝ }
+fn phase_fits(mode: Mode, count: usize, p: Progress) -> bool
+    ensures { λ r. ⌜ r ≡ phaseFits mode count p ⌝ }
 {
-    let p = s.plan;
-    let mode = p.mode;
-    if s.phase < 1 {
-        return false;
-    }
-    s.phase <= last_phase(mode, p.count, s.index)
+    both(1 <= p.phase, p.phase <= last_phase(mode, count, p.index))
 }
 
-// Whether a state that is finished is at the last index and phase.
-fn end_fits(s: State) -> bool
-    ensures { λ r. ⌜ r ≡ endFits s ⌝ }
+// Whether a flight that is finished is at the last index and phase.
+fn end_fits(mode: Mode, count: usize, p: Progress) -> bool
+    ensures { λ r. ⌜ r ≡ endFits mode count p ⌝ }
 {
-    if s.finished {
-        return at_end(s);
+    if p.finished {
+        return at_end(mode, count, p);
     }
     true
 }
 
 // Whether index, phase and finished are such as the mode allows.
-fn placed(s: State) -> bool
-    ensures { λ r. ⌜ r ≡ placedOf s ⌝ }
+fn placed(mode: Mode, count: usize, p: Progress) -> bool
+    ensures { λ r. ⌜ r ≡ placedOf mode count p ⌝ }
 {
-    if index_fits(s) {
-        if phase_fits(s) {
-            return end_fits(s);
-        }
-    }
-    false
+    both(
+        index_fits(count, p),
+        both(phase_fits(mode, count, p), end_fits(mode, count, p)),
+    )
 }
 
 // Whether a state is not refused 14.
-pub fn valid(s: State) -> bool
-    ensures { λ r. ⌜ (r ≡ validOf s) × (r ≡ true → Valid s) ⌝ }
+pub fn valid<'a>(
+    head: Head,
+    progress: Progress,
+    norths: &'a [i32],
+    easts: &'a [i32],
+    downs: &'a [i32],
+    courses: &'a [i32],
+) -> bool
+    requires { ⌜ Long (now norths) (now easts) (now downs) (now courses) ⌝ }
+    ensures { λ r. ⌜ (r ≡ validOf (viewed head progress (now (norths .entry)) (now (easts .entry)) (now (downs .entry)) (now (courses .entry)))) × (r ≡ true → Valid (viewed head progress (now (norths .entry)) (now (easts .entry)) (now (downs .entry)) (now (courses .entry)))) ⌝ }
 {
-    let p = s.plan;
-    if plan::stands(p) {
-        return placed(s);
+    if plan::stands(head, norths, easts, downs, courses) {
+        let mode = head.mode;
+        return placed(mode, head.count, progress);
     }
     false
 }
@@ -190,120 +217,214 @@ fn path_guide(ends: Ends, phase: u8, at: Point) -> Guidance
     }
 }
 
-// The guidance at a state's index and phase.
-fn guide(s: State, at: Point) -> Guidance
-    requires { ⌜ Valid s × InArea at ⌝ }
-    ensures { λ r. ⌜ (r ≡ guideOf (s .plan .mode) (s .plan) (s .index) (s .phase) at) × (r .heading < 4096) ⌝ }
+// The guidance of lines on the leg from a to b. Unless it is the last one a point comes behind it, at place i.
+fn line_guide_at<'a>(
+    last: bool,
+    a: Point,
+    b: Point,
+    i: usize,
+    at: Point,
+    norths: &'a [i32],
+    easts: &'a [i32],
+    downs: &'a [i32],
+) -> Guidance
+    requires { ⌜ (InArea a × InArea b) × ((last ≡ false → Placed (now norths) (now easts) (now downs) i) × InArea at) ⌝ }
+    ensures { λ r. ⌜ (r ≡ choose last (lastLegGuide false a b at) (lineGuide a b (placeAt (now (norths .entry)) (now (easts .entry)) (now (downs .entry)) i) at)) × (r .heading < 4096) ⌝ }
 {
-    let p = s.plan;
-    let i = s.index;
-    let mode = p.mode;
-    let last = on_last_leg(p.count, i);
-    let a = p.points[i - 2];
-    let b = p.points[i - 1];
-    match mode {
-        Mode::Lines => {
-            if last {
-                return guidance::last_leg_guide(guidance::IN_SPACE, a, b, at);
-            }
-            let c = p.points[i];
-            guidance::line_guide(a, b, c, at)
-        }
-        Mode::Fillets => {
-            if last {
-                return guidance::last_leg_guide(guidance::LEVEL, a, b, at);
-            }
-            let c = p.points[i];
-            guidance::fillet_guide(a, b, c, p.radius as u64, s.phase, at)
-        }
-        Mode::Dubins => {
-            let ends = Ends {
-                start: a,
-                leave: p.courses[i - 2] as usize,
-                end: b,
-                arrive: p.courses[i - 1] as usize,
-                radius: p.radius as u64,
-            };
-            path_guide(ends, s.phase, at)
-        }
+    if last {
+        return guidance::last_leg_guide(guidance::IN_SPACE, a, b, at);
+    }
+    let c = plan::point_at(norths, easts, downs, i);
+    guidance::line_guide(a, b, c, at)
+}
+
+// The same of fillets.
+fn fillet_guide_at<'a>(
+    last: bool,
+    a: Point,
+    b: Point,
+    i: usize,
+    radius: u16,
+    phase: u8,
+    at: Point,
+    norths: &'a [i32],
+    easts: &'a [i32],
+    downs: &'a [i32],
+) -> Guidance
+    requires { ⌜ (InArea a × InArea b) × ((last ≡ false → Placed (now norths) (now easts) (now downs) i × ((radius ≤ mostRadius) × (turnOf a b (placeAt (now norths) (now easts) (now downs) i) ≤ mostTurn))) × InArea at) ⌝ }
+    ensures { λ r. ⌜ (r ≡ choose last (lastLegGuide true a b at) (filletGuide a b (placeAt (now (norths .entry)) (now (easts .entry)) (now (downs .entry)) i) radius phase at)) × (r .heading < 4096) ⌝ }
+{
+    if last {
+        return guidance::last_leg_guide(guidance::LEVEL, a, b, at);
+    }
+    let c = plan::point_at(norths, easts, downs, i);
+    guidance::fillet_guide(a, b, c, radius as u64, phase, at)
+}
+
+// The leg from a to b of a Dubins plan. Its courses lie at the places i - 2 and i - 1.
+fn ends_at(a: Point, b: Point, i: usize, radius: u16, courses: &[i32]) -> Ends
+    requires { ⌜ (InArea a × InArea b) × ((2 ≤ i) × ((Aiming (now courses) (i - 2) × Aiming (now courses) (i - 1)) × (radius ≤ mostRadius))) ⌝ }
+    ensures { λ r. ⌜ (r ≡ record { start = a; leave = courseAt (now (courses .entry)) (i - 2); end = b; arrive = courseAt (now (courses .entry)) (i - 1); radius = radius }) × IsEnds r ⌝ }
+{
+    let leave = plan::course_at(courses, i - 2);
+    let arrive = plan::course_at(courses, i - 1);
+    Ends {
+        start: a,
+        leave,
+        end: b,
+        arrive,
+        radius: radius as u64,
     }
 }
 
-// The state after a fix that ended its phase, or did not.
-fn next(s: State, passed: bool) -> State
-    requires { ⌜ Valid s ⌝ }
-    ensures { λ r. ⌜ r ≡ nextOf s passed ⌝ }
+// The guidance at an index and phase. Point i lies at place i - 1.
+fn guide<'a>(
+    head: Head,
+    progress: Progress,
+    at: Point,
+    norths: &'a [i32],
+    easts: &'a [i32],
+    downs: &'a [i32],
+    courses: &'a [i32],
+) -> Guidance
+    requires { ⌜ Long (now norths) (now easts) (now downs) (now courses) × (Valid (viewed head progress (now norths) (now easts) (now downs) (now courses)) × InArea at) ⌝ }
+    ensures { λ r. ⌜ (r ≡ guideHere (viewed head progress (now (norths .entry)) (now (easts .entry)) (now (downs .entry)) (now (courses .entry))) at) × (r .heading < 4096) ⌝ }
 {
-    let p = s.plan;
-    let mode = p.mode;
-    let mut t = s;
+    let mode = head.mode;
+    let i = progress.index;
+    let last = on_last_leg(head.count, i);
+    let a = plan::point_at(norths, easts, downs, i - 2);
+    let b = plan::point_at(norths, easts, downs, i - 1);
+    let radius = head.radius;
+    let phase = progress.phase;
+    match mode {
+        Mode::Lines => line_guide_at(last, a, b, i, at, norths, easts, downs),
+        Mode::Fillets => fillet_guide_at(last, a, b, i, radius, phase, at, norths, easts, downs),
+        Mode::Dubins => path_guide(ends_at(a, b, i, radius, courses), phase, at),
+    }
+}
+
+// How far the plan is flown after a fix that ended its phase, or did not.
+fn next(mode: Mode, count: usize, p: Progress, passed: bool) -> Progress
+    requires { ⌜ p .index ≤ mostPoints ⌝ }
+    ensures { λ r. ⌜ r ≡ nextOf mode count p passed ⌝ }
+{
+    let mut t = p;
     if passed {
-        if s.phase < last_phase(mode, p.count, s.index) {
-            t.phase = s.phase + 1;
+        if p.phase < last_phase(mode, count, p.index) {
+            t.phase = p.phase + 1;
             return t;
         }
-        if on_last_leg(p.count, s.index) {
+        if on_last_leg(count, p.index) {
             t.finished = true;
             return t;
         }
-        t.index = s.index + 1;
+        t.index = p.index + 1;
         t.phase = 1;
         return t;
     }
     t
 }
 
-// A refusal: no command, heading 0, the state as it was.
-fn refuse(s: State, number: u8) -> Stepped
-    ensures { λ r. ⌜ r ≡ refuseOf s number ⌝ }
+// A refusal: no command, heading 0, as far as before.
+fn refuse(progress: Progress, number: u8) -> Decided
+    ensures { λ r. ⌜ r ≡ refusedAt progress number ⌝ }
 {
     let answer = Answer {
         refusal: number,
         place: 0,
         command: Command::Nothing,
         heading: 0,
-        index: s.index,
-        phase: s.phase,
-        finished: s.finished,
+        index: progress.index,
+        phase: progress.phase,
+        finished: progress.finished,
     };
-    Stepped { answer, state: s }
+    Decided { answer, progress }
 }
 
-// A fix that no number refuses, at its position.
-fn moved(s: State, at: Point) -> Stepped
-    requires { ⌜ Valid s × InArea at ⌝ }
-    ensures { λ r. ⌜ r ≡ movedOf s at ⌝ }
+// The answer by a guidance, and how far the plan is flown after it.
+fn accept(g: Guidance, progress: Progress) -> Decided
+    requires { ⌜ g .heading < 4096 ⌝ }
+    ensures { λ r. ⌜ r ≡ answered g progress ⌝ }
 {
-    let g = guide(s, at);
-    let state = next(s, g.passed);
     let command = g.command;
     let answer = Answer {
         refusal: 0,
         place: 0,
         command,
         heading: g.heading as u16,
-        index: state.index,
-        phase: state.phase,
-        finished: state.finished,
+        index: progress.index,
+        phase: progress.phase,
+        finished: progress.finished,
     };
-    Stepped { answer, state }
+    Decided { answer, progress }
+}
+
+// A fix that no number refuses, at its position.
+fn moved<'a>(
+    head: Head,
+    progress: Progress,
+    at: Point,
+    norths: &'a [i32],
+    easts: &'a [i32],
+    downs: &'a [i32],
+    courses: &'a [i32],
+) -> Decided
+    requires { ⌜ Long (now norths) (now easts) (now downs) (now courses) × (Valid (viewed head progress (now norths) (now easts) (now downs) (now courses)) × InArea at) ⌝ }
+    ensures { λ r. ⌜ steppedBy (seen head (now (norths .entry)) (now (easts .entry)) (now (downs .entry)) (now (courses .entry))) r ≡ movedOf (viewed head progress (now (norths .entry)) (now (easts .entry)) (now (downs .entry)) (now (courses .entry))) at ⌝ }
+{
+    let g = guide(head, progress, at, norths, easts, downs, courses);
+    let mode = head.mode;
+    accept(g, next(mode, head.count, progress, g.passed))
+}
+
+// One fix: the command of the index and phase before it, and how far the plan is flown after it.
+pub fn decide<'a>(
+    head: Head,
+    progress: Progress,
+    serial: u32,
+    fix: Fix,
+    norths: &'a [i32],
+    easts: &'a [i32],
+    downs: &'a [i32],
+    courses: &'a [i32],
+) -> Decided
+    requires { ⌜ Long (now norths) (now easts) (now downs) (now courses) ⌝ }
+    ensures { λ r. ⌜ steppedBy (seen head (now (norths .entry)) (now (easts .entry)) (now (downs .entry)) (now (courses .entry))) r ≡ stepOf (viewed head progress (now (norths .entry)) (now (easts .entry)) (now (downs .entry)) (now (courses .entry))) serial fix ⌝ }
+{
+    if valid(head, progress, norths, easts, downs, courses) {
+        if serial == head.serial {
+            return match units::locate(fix) {
+                Position::At(at) => moved(head, progress, at, norths, easts, downs, courses),
+                Position::Nowhere => refuse(progress, refusals::NO_POSITION),
+            };
+        }
+        return refuse(progress, refusals::OTHER_SERIAL);
+    }
+    refuse(progress, refusals::NO_STATE)
 }
 
 impl State {
-    // One fix: the command of the index and phase before it, and the state after it.
+    // One fix of a state, which lends its own numbers.
     pub fn step(self, serial: u32, fix: Fix) -> Stepped
         ensures { λ r. ⌜ (r ≡ stepOf self serial fix) × Finishes self fix r ⌝ }
     {
-        if valid(self) {
-            let p = self.plan;
-            if serial == p.serial {
-                return match units::locate(fix) {
-                    Position::At(at) => moved(self, at),
-                    Position::Nowhere => refuse(self, refusals::NO_POSITION),
-                };
-            }
-            return refuse(self, refusals::OTHER_SERIAL);
-        }
-        refuse(self, refusals::NO_STATE)
+        let plan = self.plan;
+        let head = self.plan.head;
+        let before = self.progress;
+        let decided = decide(
+            head,
+            before,
+            serial,
+            fix,
+            &self.plan.norths,
+            &self.plan.easts,
+            &self.plan.downs,
+            &self.plan.courses,
+        );
+        let progress = decided.progress;
+        let state = State { plan, progress };
+        let answer = decided.answer;
+        Stepped { answer, state }
     }
 }

@@ -6,8 +6,9 @@ use mathlib.Core.Logic.{_⊎_, ⊎-elim}
 use Prim.Native.Nat.{ℕ, _-_, _≤_, _<_}
 use native.Mathlib.Omega.{arith}
 use lib.Dec.{eqb, ltb}
+use lib.IntN.{pos}
 use lib.ListN.{length, List·getD-eq-default}
-use borrow.Author.Tests.{eqb-true, eqb-false, ltb-true, ltb-false, eq-eqb, lt-ltb}
+use borrow.Author.Tests.{eqb-true, eqb-false, ltb-true, ltb-false}
 use Rattle.integers.specs.Choose.{choose}
 use Rattle.integers.proofs.ChooseLaws.{choose-true, choose-false}
 use Rattle.refusals.specs.Outcome.{isGood}
@@ -18,13 +19,13 @@ use Rattle.plane.specs.declared.Point.{Point}
 use Rattle.plane.specs.Area.{InArea}
 use Rattle.plan.specs.declared.Mode.{Mode}
 use Rattle.plan.specs.declared.Mode.the-variants.{Lines, Fillets, Dubins}
-use Rattle.plan.specs.Limits.{mostPoints, leastRadius, mostRadius, courses, withinOf, insideOf, zeroOf, arcRadius, radiusFits}
+use Rattle.plan.specs.Limits.{mostPoints, leastRadius, mostRadius, courses, betweenOf, insideOf, zeroOf, arcRadius, radiusFits}
 use Rattle.plan.specs.Places.{noPoint, pointsAt, coursesAt}
 use Rattle.plan.specs.Rules.{modeOf, coursesFit}
 use Rattle.plan.specs.Stands.{givenOf, pointFits, courseFits, valuesFit, placeFits, placesFit, rulesOf, standsOf}
 use Rattle.plan.specs.Loaded.{planOf, Loads}
-use Rattle.plan.proofs.LimitLaws.{area-test, arc-test}
-use Rattle.plan.proofs.PlaceLaws.{padded-at, rules-padded}
+use Rattle.plan.proofs.LimitLaws.{area-test, arc-test, course-test}
+use Rattle.plan.proofs.PlaceLaws.{padded-at, points-padded, rules-padded}
 use Rattle.plan.proofs.RuleLaws.{Passed, rules-passed}
 use Rattle.plan.proofs.StandLaws.{tests-stand}
 
@@ -62,7 +63,7 @@ mode-radius R given h =
 
 -- ---- the places
 none-zero : zeroOf noPoint ≡ true
-unfolding zeroOf insideOf withinOf both
+unfolding zeroOf insideOf betweenOf both
 none-zero = refl
 
 point-listed : (ps : List Point) → ((i : ℕ) → i < length ps → InArea (pointsAt ps i)) → (i : ℕ) → pointFits (ltb i (length ps)) (pointsAt ps i) ≡ true
@@ -72,12 +73,12 @@ point-listed ps h i =
     (λ t. choose-true _ _ _ t ∙ area-test (pointsAt ps i) (h i (ltb-true i (length ps) t)))
     (λ u. choose-false _ _ _ u ∙ ap zeroOf (List·getD-eq-default ps noPoint {n = i} (ltb-false i (length ps) u)) ∙ none-zero)
 
-course-listed : (cs : List ℕ) → ((i : ℕ) → i < length cs → coursesAt cs i < courses) → (i : ℕ) → courseFits (ltb i (length cs)) (coursesAt cs i) ≡ true
+course-listed : (cs : List ℕ) → ((i : ℕ) → i < length cs → coursesAt cs i < courses) → (i : ℕ) → courseFits (ltb i (length cs)) (pos (coursesAt cs i)) ≡ true
 unfolding courseFits
 course-listed cs h i =
     by-bool (ltb i (length cs))
-    (λ t. choose-true _ _ _ t ∙ lt-ltb (coursesAt cs i) courses (h i (ltb-true i (length cs) t)))
-    (λ u. choose-false _ _ _ u ∙ eq-eqb (coursesAt cs i) 0 (List·getD-eq-default cs 0 {n = i} (ltb-false i (length cs) u)))
+    (λ t. choose-true _ _ _ t ∙ course-test (courses - 1) (coursesAt cs i) (omega (arith, h i (ltb-true i (length cs) t))))
+    (λ u. choose-false _ _ _ u ∙ course-test 0 (coursesAt cs i) (omega (arith, List·getD-eq-default cs 0 {n = i} (ltb-false i (length cs) u))))
 
 -- ---- the plan
 module _ (serial R : ℕ) (ps : List Point) (cs : List ℕ) (l : Loads serial R ps cs) where
@@ -96,8 +97,8 @@ module _ (serial R : ℕ) (ps : List Point) (cs : List ℕ) (l : Loads serial R 
       every-of (placeFits (planOf serial R ps cs)) (mostPoints - 0) 0
       (λ i _ _.
       both-true _ _
-      (ap (pointFits (ltb i (length ps))) (padded-at mostPoints noPoint ps (passed .most) i) ∙ point-listed ps (l .ranged) i)
-      ((λ t. courseFits (ltb i (given t)) (padded-at mostPoints 0 cs few i t)) ∙ course-listed cs (l .aimed) i))
+      (ap (pointFits (ltb i (length ps))) (points-padded ps (passed .most) i) ∙ point-listed ps (l .ranged) i)
+      ((λ t. courseFits (ltb i (given t)) (padded-at pos mostPoints 0 cs few i t)) ∙ course-listed cs (l .aimed) i))
 
   pub loaded-stands : standsOf (planOf serial R ps cs) ≡ true
   loaded-stands =

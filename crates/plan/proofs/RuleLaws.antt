@@ -104,6 +104,12 @@ module _ (R n : ℕ) (at : ℕ → Point) (course : ℕ → ℕ) where
   pub dubins-rest : refusalOf (andThen (cornersOf Dubins n at) (λ (_ : Done). legsOf Dubins R n at course)) ≡ refusalOf (legsOf Dubins R n at course)
   dubins-rest = ap refusalOf (then-good _ done _ (dubins-corners n at))
 
+-- the legs of fillets have no courses
+pub fillet-rest : (R n : ℕ) (at : ℕ → Point) (course other : ℕ → ℕ)
+    → refusalOf (andThen (cornersOf Fillets n at) (λ (_ : Done). legsOf Fillets R n at course)) ≡ refusalOf (andThen (cornersOf Fillets n at) (λ (_ : Done). legsOf Fillets R n at other))
+unfolding legsOf legNumber
+fillet-rest R n at course other = refl
+
 -- ---- 8 and 9 before them
 pub record Passed (mode : Mode) (R given n : ℕ) (at : ℕ → Point) (course : ℕ → ℕ) : Type 0 where
   pub least : fewestPoints ≤ n

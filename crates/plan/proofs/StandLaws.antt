@@ -5,7 +5,8 @@ use mathlib.Core.List.{List}
 use Prim.Native.Nat.{ℕ, _-_, _≤_, _<_}
 use native.Mathlib.Omega.{arith}
 use lib.Dec.{eqb, ltb}
-use borrow.Author.Tests.{eqb-true, eqb-false, ltb-true, ltb-false, leb-true, le-leb, eq-eqb, ne-eqb, not-true}
+use lib.IntN.{ℤ}
+use borrow.Author.Tests.{eqb-false, leb-true, le-leb, ne-eqb, not-true}
 use Rattle.integers.specs.Choose.{choose}
 use Rattle.refusals.specs.declared.Refusal.{Refusal}
 use Rattle.refusals.specs.Outcome.{refusalOf, isGood}
@@ -17,11 +18,11 @@ use Rattle.plane.specs.Area.{InArea}
 use Rattle.plan.specs.declared.Mode.{Mode}
 use Rattle.plan.specs.declared.Mode.the-variants.{Lines, Fillets, Dubins}
 use Rattle.plan.specs.declared.Plan.{Plan}
-use Rattle.plan.specs.Limits.{fewestPoints, mostPoints, mostLevel, mostDown, mostRadius, courses, insideOf, inAreaOf, zeroOf, radiusFits}
-use Rattle.plan.specs.Places.{pointOf, courseOf, coursesAt}
+use Rattle.plan.specs.Limits.{fewestPoints, mostPoints, mostLevel, mostDown, mostRadius, courses, betweenOf, numberFits, radiusFits}
+use Rattle.plan.specs.Places.{numberAt, placeAt, pointOf, courseOf}
 use Rattle.plan.specs.Rules.{modeOf, cornersOf, legsOf}
-use Rattle.plan.specs.Stands.{givenOf, pointFits, courseFits, valuesFit, placeFits, placesFit, rulesOf, standsOf, Ranged, Aimed, ByMode, Stands}
-use Rattle.plan.proofs.LimitLaws.{area-means, zero-area, arc-least, radius-most}
+use Rattle.plan.specs.Stands.{givenOf, pointFits, courseFits, valuesFit, placeFits, placesFit, rulesOf, standsOf, Ranged, Aimed, IsCourse, Placed, Aiming, Long, ByMode, Stands}
+use Rattle.plan.proofs.LimitLaws.{area-means, zero-area, course-means, point-numbers, arc-least, radius-most}
 use Rattle.plan.proofs.RuleLaws.{corner-turns, leg-paths, rules-proper, rules-passed}
 
 -- ---- places
@@ -30,13 +31,13 @@ unfolding pointFits choose
 point-area true p h = area-means p h
 point-area false p h = zero-area p h
 
-course-low : (used : Bool) (χ : ℕ) → courseFits used χ ≡ true → χ < courses
+course-low : (used : Bool) (χ : ℤ) → courseFits used χ ≡ true → IsCourse χ
 unfolding courseFits choose
-course-low true χ h = ltb-true χ courses h
-course-low false χ h = omega (arith, eqb-true χ 0 h)
+course-low true χ h = course-means (courses - 1) χ (omega arith) h
+course-low false χ h = course-means 0 χ (omega arith) h
 
 place-means : (p : Plan) → placesFit p ≡ true → (i : ℕ) → i < mostPoints
-    → (pointFits (ltb i (p .count)) (pointOf p i) ≡ true) × (courseFits (ltb i (givenOf (p .mode) (p .count))) (courseOf p i) ≡ true)
+    → (pointFits (ltb i (p .head .count)) (pointOf p i) ≡ true) × (courseFits (ltb i (givenOf (p .head .mode) (p .head .count))) (numberAt (p .courses) i) ≡ true)
 unfolding placesFit placeFits valuesFit
 place-means p h i l =
     let e = every-means (placeFits p) (mostPoints - 0) 0 h i (omega arith) (omega arith) in
@@ -44,68 +45,87 @@ place-means p h i l =
 
 pub places-mean : (p : Plan) → placesFit p ≡ true → Ranged p × Aimed p
 places-mean p h =
-    ((λ i l. point-area (ltb i (p .count)) (pointOf p i) (place-means p h i l .0)), (λ i l. course-low (ltb i (givenOf (p .mode) (p .count))) (courseOf p i) (place-means p h i l .1)))
+    ((λ i l. point-area (ltb i (p .head .count)) (pointOf p i) (place-means p h i l .0)), (λ i l. course-low (ltb i (givenOf (p .head .mode) (p .head .count))) (numberAt (p .courses) i) (place-means p h i l .1)))
 
--- ---- the places of each kind by themselves: points in use and others, courses that are given and others
-module _ (p : Plan) where
-  abbrev pub pointsFit : Bool
-  pointsFit = every (λ (i : ℕ). pointFits (ltb i (p .count)) (pointOf p i)) (mostPoints - 0) 0
+-- ---- the places of each kind of number by themselves: those in use and the others
+module _ (values : List ℤ) (used : ℕ) (low high : ℕ) where
+  abbrev pub numbersFit : Bool
+  numbersFit = every (λ (i : ℕ). numberFits (ltb i used) low high (numberAt values i)) (mostPoints - 0) 0
 
   abbrev pub usedFit : Bool
-  usedFit = every (λ (i : ℕ). insideOf mostLevel mostDown (pointOf p i)) (p .count - 0) 0
+  usedFit = every (λ (i : ℕ). betweenOf low high (numberAt values i)) (used - 0) 0
 
   abbrev pub unusedFit : Bool
-  unusedFit = every (λ (i : ℕ). insideOf 0 0 (pointOf p i)) (mostPoints - p .count) (p .count)
+  unusedFit = every (λ (i : ℕ). betweenOf 0 0 (numberAt values i)) (mostPoints - used) used
 
-  pub points-parts : p .count ≤ mostPoints → pointsFit ≡ both usedFit unusedFit
-  unfolding pointFits inAreaOf zeroOf
-  points-parts l = every-change (λ (i : ℕ). insideOf mostLevel mostDown (pointOf p i)) (λ (i : ℕ). insideOf 0 0 (pointOf p i)) (p .count) mostPoints l
+  pub number-parts : used ≤ mostPoints → numbersFit ≡ both usedFit unusedFit
+  number-parts l = every-change (λ (i : ℕ). betweenOf low high (numberAt values i)) (λ (i : ℕ). betweenOf 0 0 (numberAt values i)) used mostPoints l
 
-module _ (values : List ℕ) (given : ℕ) where
-  abbrev pub coursesFit : Bool
-  coursesFit = every (λ (i : ℕ). courseFits (ltb i given) (coursesAt values i)) (mostPoints - 0) 0
+-- all points
+module _ (ns es ds : List ℤ) (n : ℕ) where
+  abbrev pub pointsFit : Bool
+  pointsFit = every (λ (i : ℕ). pointFits (ltb i n) (placeAt ns es ds i)) (mostPoints - 0) 0
 
-  abbrev pub givenFit : Bool
-  givenFit = every (λ (i : ℕ). ltb (coursesAt values i) courses) (given - 0) 0
+  abbrev pub northsFit : Bool
+  northsFit = numbersFit ns n mostLevel mostLevel
 
-  abbrev pub otherFit : Bool
-  otherFit = every (λ (i : ℕ). ltb (coursesAt values i) 1) (mostPoints - given) given
+  abbrev pub eastsFit : Bool
+  eastsFit = numbersFit es n mostLevel mostLevel
 
-  pub courses-parts : given ≤ mostPoints → coursesFit ≡ both givenFit otherFit
-  unfolding courseFits
-  courses-parts l =
-      every-same (λ (i : ℕ). courseFits (ltb i given) (coursesAt values i)) (λ (i : ℕ). choose (ltb i given) (ltb (coursesAt values i) courses) (ltb (coursesAt values i) 1)) (mostPoints - 0) 0
-      (λ i _ _. ap (choose (ltb i given) (ltb (coursesAt values i) courses)) (zero-below (coursesAt values i)))
-      ∙ every-change (λ (i : ℕ). ltb (coursesAt values i) courses) (λ (i : ℕ). ltb (coursesAt values i) 1) given mostPoints l
-    where
-      zero-below : (χ : ℕ) → eqb χ 0 ≡ ltb χ 1
-      zero-below χ = by-bool (ltb χ 1) (λ t. eq-eqb χ 0 (omega (arith, ltb-true χ 1 t)) ∙ sym t) (λ u. ne-eqb χ 0 (λ z. omega (arith, ltb-false χ 1 u)) ∙ sym u)
+  abbrev pub downsFit : Bool
+  downsFit = numbersFit ds n mostDown mostDown
 
-pub places-parts : (p : Plan) → placesFit p ≡ both (pointsFit p) (coursesFit (p .courses) (givenOf (p .mode) (p .count)))
-unfolding placesFit placeFits valuesFit
+  abbrev north : ℕ → Bool
+  north i = numberFits (ltb i n) mostLevel mostLevel (numberAt ns i)
+
+  abbrev east : ℕ → Bool
+  east i = numberFits (ltb i n) mostLevel mostLevel (numberAt es i)
+
+  abbrev down : ℕ → Bool
+  down i = numberFits (ltb i n) mostDown mostDown (numberAt ds i)
+
+  pub points-parts : pointsFit ≡ both northsFit (both eastsFit downsFit)
+  points-parts =
+      every-same (λ (i : ℕ). pointFits (ltb i n) (placeAt ns es ds i)) (λ (i : ℕ). both (north i) (both (east i) (down i))) (mostPoints - 0) 0
+      (λ i _ _. point-numbers (ltb i n) (placeAt ns es ds i))
+      ∙ every-both north (λ (i : ℕ). both (east i) (down i)) (mostPoints - 0) 0
+      ∙ ap (both northsFit) (every-both east down (mostPoints - 0) 0)
+
+abbrev pub coursesFit : List ℤ → ℕ → Bool
+coursesFit cs given = numbersFit cs given 0 (courses - 1)
+
+pub places-parts : (p : Plan) → placesFit p ≡ both (pointsFit (p .norths) (p .easts) (p .downs) (p .head .count)) (coursesFit (p .courses) (givenOf (p .head .mode) (p .head .count)))
+unfolding placesFit placeFits valuesFit courseFits
 places-parts p =
-    every-both (λ (i : ℕ). pointFits (ltb i (p .count)) (pointOf p i)) (λ (i : ℕ). courseFits (ltb i (givenOf (p .mode) (p .count))) (courseOf p i)) (mostPoints - 0) 0
+    every-both (λ (i : ℕ). pointFits (ltb i (p .head .count)) (pointOf p i)) (λ (i : ℕ). courseFits (ltb i (givenOf (p .head .mode) (p .head .count))) (numberAt (p .courses) i)) (mostPoints - 0) 0
+
+-- what places that fit give, where all are there
+pub placed-of : (p : Plan) → Long (p .norths) (p .easts) (p .downs) (p .courses) → Ranged p → (i : ℕ) → i < mostPoints → Placed (p .norths) (p .easts) (p .downs) i
+placed-of p l r i h = record { there = record { north = omega (arith, l .north); east = omega (arith, l .east); down = omega (arith, l .down) }; area = r i h }
+
+pub aiming-of : (p : Plan) → Long (p .norths) (p .easts) (p .downs) (p .courses) → Aimed p → (i : ℕ) → i < mostPoints → Aiming (p .courses) i
+aiming-of p l a i h = record { there = omega (arith, l .course); course = a i h }
 
 -- ---- the tests in order
 pub record Tests (p : Plan) : Type 0 where
-  pub serial : p .serial ≡ 0 → ⊥
-  pub most : p .count ≤ mostPoints
-  pub radius : radiusFits (p .mode) (p .radius) ≡ true
+  pub serial : p .head .serial ≡ 0 → ⊥
+  pub most : p .head .count ≤ mostPoints
+  pub radius : radiusFits (p .head .mode) (p .head .radius) ≡ true
   pub places : placesFit p ≡ true
-  pub rules : isGood (rulesOf p (givenOf (p .mode) (p .count))) ≡ true
+  pub rules : isGood (rulesOf p (givenOf (p .head .mode) (p .head .count))) ≡ true
 
 module _ (p : Plan) where
-  stands-rules : (p .serial ≡ 0 → ⊥) → p .count ≤ mostPoints → radiusFits (p .mode) (p .radius) ≡ true → placesFit p ≡ true
-      → standsOf p ≡ isGood (rulesOf p (givenOf (p .mode) (p .count)))
+  stands-rules : (p .head .serial ≡ 0 → ⊥) → p .head .count ≤ mostPoints → radiusFits (p .head .mode) (p .head .radius) ≡ true → placesFit p ≡ true
+      → standsOf p ≡ isGood (rulesOf p (givenOf (p .head .mode) (p .head .count)))
   unfolding standsOf
-  stands-rules s m r h = both-on _ _ (ap not (ne-eqb (p .serial) 0 s)) ∙ both-on _ _ (le-leb (p .count) mostPoints m) ∙ both-on _ _ r ∙ both-on _ _ h
+  stands-rules s m r h = both-on _ _ (ap not (ne-eqb (p .head .serial) 0 s)) ∙ both-on _ _ (le-leb (p .head .count) mostPoints m) ∙ both-on _ _ r ∙ both-on _ _ h
 
   -- from what the rules have answered
-  pub stands-found : (p .serial ≡ 0 → ⊥) → p .count ≤ mostPoints → radiusFits (p .mode) (p .radius) ≡ true → placesFit p ≡ true
-      → (r : Refusal) → r ≡ refusalOf (rulesOf p (givenOf (p .mode) (p .count))) → eqb (r .number) 0 ≡ standsOf p
+  pub stands-found : (p .head .serial ≡ 0 → ⊥) → p .head .count ≤ mostPoints → radiusFits (p .head .mode) (p .head .radius) ≡ true → placesFit p ≡ true
+      → (r : Refusal) → r ≡ refusalOf (rulesOf p (givenOf (p .head .mode) (p .head .count))) → eqb (r .number) 0 ≡ standsOf p
   stands-found s m t h r e =
       ap (λ (x : Refusal). eqb (x .number) 0) e
-      ∙ sym (stands-rules s m t h ∙ rules-proper (p .mode) (p .radius) (givenOf (p .mode) (p .count)) (p .count) (pointOf p) (courseOf p))
+      ∙ sym (stands-rules s m t h ∙ rules-proper (p .head .mode) (p .head .radius) (givenOf (p .head .mode) (p .head .count)) (p .head .count) (pointOf p) (courseOf p))
 
   pub tests-stand : Tests p → standsOf p ≡ true
   tests-stand t = stands-rules (t .serial) (t .most) (t .radius) (t .places) ∙ t .rules
@@ -117,8 +137,8 @@ module _ (p : Plan) where
       let b = both-second _ _ a in
       let c = both-second _ _ b in
       record {
-        serial = eqb-false (p .serial) 0 (not-true (eqb (p .serial) 0) (both-first _ _ h));
-        most = leb-true (p .count) mostPoints (both-first _ _ a);
+        serial = eqb-false (p .head .serial) 0 (not-true (eqb (p .head .serial) 0) (both-first _ _ h));
+        most = leb-true (p .head .count) mostPoints (both-first _ _ a);
         radius = both-first _ _ b;
         places = both-first _ _ c;
         rules = both-second _ _ c;
@@ -128,18 +148,18 @@ module _ (p : Plan) where
   stands-fails f = by-bool (standsOf p) (λ t. absurd (f (stands-tests t))) (λ u. u)
 
 -- ---- what they mean
-by-mode : (p : Plan) (mode : Mode) → p .radius ≤ mostRadius → Aimed p → isGood (cornersOf mode (p .count) (pointOf p)) ≡ true
-    → isGood (legsOf mode (p .radius) (p .count) (pointOf p) (courseOf p)) ≡ true → ByMode mode p
+by-mode : (p : Plan) (mode : Mode) → p .head .radius ≤ mostRadius → Aimed p → isGood (cornersOf mode (p .head .count) (pointOf p)) ≡ true
+    → isGood (legsOf mode (p .head .radius) (p .head .count) (pointOf p) (courseOf p)) ≡ true → ByMode mode p
 by-mode p Lines r a c l = tt
-by-mode p Fillets r a c l = (r, corner-turns (p .count) (pointOf p) c)
-by-mode p Dubins r a c l = (r, (a, leg-paths (p .radius) (p .count) (pointOf p) (courseOf p) l))
+by-mode p Fillets r a c l = (r, corner-turns (p .head .count) (pointOf p) c)
+by-mode p Dubins r a c l = (r, (a, leg-paths (p .head .radius) (p .head .count) (pointOf p) (courseOf p) l))
 
 pub stands-means : (p : Plan) → standsOf p ≡ true → Stands p
 stands-means p h =
     let t = stands-tests p h in
     let n = places-mean p (t .places) in
-    let r = rules-passed (p .mode) (p .radius) (givenOf (p .mode) (p .count)) (p .count) (pointOf p) (courseOf p) (t .rules) in
-    record { least = r .least; most = r .most; ranged = n .0; mode = by-mode p (p .mode) (radius-most (p .mode) (p .radius) (t .radius)) (n .1) (r .corners) (r .legs) }
+    let r = rules-passed (p .head .mode) (p .head .radius) (givenOf (p .head .mode) (p .head .count)) (p .head .count) (pointOf p) (courseOf p) (t .rules) in
+    record { least = r .least; most = r .most; ranged = n .0; mode = by-mode p (p .head .mode) (radius-most (p .head .mode) (p .head .radius) (t .radius)) (n .1) (r .corners) (r .legs) }
 
 -- ---- the mode is that of the radius and of the number of courses
 fit-mode : (mode : Mode) (R n : ℕ) → radiusFits mode R ≡ true → fewestPoints ≤ n → modeOf R (givenOf mode n) ≡ mode
@@ -151,5 +171,5 @@ fit-mode Dubins R n h l =
     let g : eqb n 0 ≡ false = ne-eqb n 0 (λ e. omega arith) in
     rw (r, g)
 
-pub mode-given : (p : Plan) → standsOf p ≡ true → modeOf (p .radius) (givenOf (p .mode) (p .count)) ≡ p .mode
-mode-given p h = fit-mode (p .mode) (p .radius) (p .count) (stands-tests p h .radius) (stands-means p h .least)
+pub mode-given : (p : Plan) → standsOf p ≡ true → modeOf (p .head .radius) (givenOf (p .head .mode) (p .head .count)) ≡ p .head .mode
+mode-given p h = fit-mode (p .head .mode) (p .head .radius) (p .head .count) (stands-tests p h .radius) (stands-means p h .least)

@@ -2,7 +2,9 @@
 use mathlib.Core.Bool.{Bool}
 use Prim.Native.Nat.{ℕ}
 use lib.Dec.{leb, eqb}
-use lib.IntN.{ℤ, natAbs}
+use lib.IntN.{ℤ, pos, negℤ}
+use lib.Signed.{leZ}
+use Rattle.integers.specs.Choose.{choose}
 use Rattle.refusals.specs.Sweep.{both}
 use Rattle.plane.specs.declared.Point.{Point}
 use Rattle.plan.specs.declared.Mode.{Mode}
@@ -34,13 +36,17 @@ courses = 4096
 abbrev pub mostTurn : ℕ
 mostTurn = 1792
 
--- |z| ≤ n
-unfoldable pub withinOf : ℕ → ℤ → Bool
-withinOf n z = leb (natAbs z) n
+-- -low ≤ z ≤ high
+unfoldable pub betweenOf : ℕ → ℕ → ℤ → Bool
+betweenOf low high z = both (leZ (negℤ (pos low)) z) (leZ z (pos high))
 
--- north and east within one limit, down within another
+-- so, or 0 where the place is unused
+abbrev pub numberFits : Bool → ℕ → ℕ → ℤ → Bool
+numberFits used low high z = choose used (betweenOf low high z) (betweenOf 0 0 z)
+
+-- north and east in ± one limit, down in ± another
 unfoldable pub insideOf : ℕ → ℕ → Point → Bool
-insideOf level down p = both (withinOf level (p .north)) (both (withinOf level (p .east)) (withinOf down (p .down)))
+insideOf level down p = both (betweenOf level level (p .north)) (both (betweenOf level level (p .east)) (betweenOf down down (p .down)))
 
 unfoldable pub inAreaOf : Point → Bool
 inAreaOf p = insideOf mostLevel mostDown p

@@ -5,24 +5,24 @@ use mathlib.Core.List.{List}
 use mathlib.Core.Logic.{_⊎_}
 use Prim.Native.Nat.{ℕ, _≤_, _<_}
 use lib.ListN.{length}
+use lib.IntN.{pos}
 use Rattle.refusals.specs.Outcome.{isGood}
 use Rattle.plane.specs.declared.Point.{Point}
 use Rattle.plane.specs.Area.{InArea}
 use Rattle.plan.specs.declared.Plan.{Plan}
 use Rattle.plan.specs.Limits.{mostPoints, leastRadius, mostRadius, courses}
-use Rattle.plan.specs.Places.{noPoint, pointsAt, coursesAt, padded}
+use Rattle.plan.specs.Places.{pointsAt, coursesAt, padded}
 use Rattle.plan.specs.Rules.{modeOf, rulesOn}
 
 -- a radius of 0 stands for none; the courses are those of the first points
 abbrev pub planOf : ℕ → ℕ → List Point → List ℕ → Plan
 planOf serial R ps cs =
     record {
-      serial = serial;
-      mode = modeOf R (length cs);
-      radius = R;
-      count = length ps;
-      points = padded mostPoints noPoint ps;
-      courses = padded mostPoints 0 cs;
+      head = record { serial = serial; mode = modeOf R (length cs); radius = R; count = length ps };
+      norths = padded (λ (p : Point). p .north) mostPoints (pos 0) ps;
+      easts = padded (λ (p : Point). p .east) mostPoints (pos 0) ps;
+      downs = padded (λ (p : Point). p .down) mostPoints (pos 0) ps;
+      courses = padded pos mostPoints (pos 0) cs;
     }
 
 pub record Loads (serial R : ℕ) (ps : List Point) (cs : List ℕ) : Type 0 where

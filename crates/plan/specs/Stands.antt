@@ -1,8 +1,11 @@
 -- Refusal 14's part on the plan: "the state's serial is 0, it breaks a limit or plan rule above, an unused place isn't zero". Assumes nothing.
 use mathlib.Core.Path.{_≡_}
 use mathlib.Core.Bool.{Bool, true, not}
+use mathlib.Core.List.{List}
 use Prim.Native.Nat.{ℕ, _-_, _+_, _≤_, _<_}
 use lib.Dec.{eqb, leb, ltb}
+use lib.IntN.{ℤ, pos, natAbs}
+use lib.ListN.{length}
 use Rattle.integers.specs.Choose.{choose}
 use Rattle.refusals.specs.Outcome.{Outcome, isGood}
 use Rattle.refusals.specs.Sweep.{Done, both, every}
@@ -13,8 +16,8 @@ use Rattle.dubins.specs.Choice.{hasPathOf}
 use Rattle.plan.specs.declared.Mode.{Mode}
 use Rattle.plan.specs.declared.Mode.the-variants.{Lines, Fillets, Dubins}
 use Rattle.plan.specs.declared.Plan.{Plan}
-use Rattle.plan.specs.Limits.{fewestPoints, mostPoints, mostRadius, mostTurn, courses, inAreaOf, zeroOf, radiusFits}
-use Rattle.plan.specs.Places.{pointOf, courseOf}
+use Rattle.plan.specs.Limits.{fewestPoints, mostPoints, mostRadius, mostTurn, courses, numberFits, inAreaOf, zeroOf, radiusFits}
+use Rattle.plan.specs.Places.{numberAt, placeAt, pointOf, courseOf}
 use Rattle.plan.specs.Rules.{endsAt, rulesOn}
 
 -- how many points of a plan have a course
@@ -27,64 +30,96 @@ givenOf Dubins n = n
 unfoldable pub pointFits : Bool → Point → Bool
 pointFits used p = choose used (inAreaOf p) (zeroOf p)
 
-unfoldable pub courseFits : Bool → ℕ → Bool
-courseFits used χ = choose used (ltb χ courses) (eqb χ 0)
+-- a course, or zero where the point has none
+unfoldable pub courseFits : Bool → ℤ → Bool
+courseFits used χ = numberFits used 0 (courses - 1) χ
 
 -- the point and the course at a place
-unfoldable pub valuesFit : Bool → Point → Bool → ℕ → Bool
+unfoldable pub valuesFit : Bool → Point → Bool → ℤ → Bool
 valuesFit used p aimed χ = both (pointFits used p) (courseFits aimed χ)
 
 unfoldable pub placeFits : Plan → ℕ → Bool
-placeFits p i = valuesFit (ltb i (p .count)) (pointOf p i) (ltb i (givenOf (p .mode) (p .count))) (courseOf p i)
+placeFits p i = valuesFit (ltb i (p .head .count)) (pointOf p i) (ltb i (givenOf (p .head .mode) (p .head .count))) (numberAt (p .courses) i)
 
 unfoldable pub placesFit : Plan → Bool
 placesFit p = every (placeFits p) (mostPoints - 0) 0
 
 abbrev pub rulesOf : Plan → ℕ → Outcome Done
-rulesOf p given = rulesOn (p .mode) (p .radius) given (p .count) (pointOf p) (courseOf p)
+rulesOf p given = rulesOn (p .head .mode) (p .head .radius) given (p .head .count) (pointOf p) (courseOf p)
 
 unfoldable pub standsOf : Plan → Bool
 standsOf p =
-    both (not (eqb (p .serial) 0))
-    (both (leb (p .count) mostPoints)
-    (both (radiusFits (p .mode) (p .radius))
+    both (not (eqb (p .head .serial) 0))
+    (both (leb (p .head .count) mostPoints)
+    (both (radiusFits (p .head .mode) (p .head .radius))
     (both (placesFit p)
-    (isGood (rulesOf p (givenOf (p .mode) (p .count)))))))
+    (isGood (rulesOf p (givenOf (p .head .mode) (p .head .count)))))))
 
 -- ---- what the functions ask of a plan and tell of it. The places of a plan are those below mostPoints.
 abbrev pub Ranged : Plan → Type 0
 Ranged p = (i : ℕ) → i < mostPoints → InArea (pointOf p i)
 
+-- a number that is a course
+pub record IsCourse (χ : ℤ) : Type 0 where
+  pub sign : χ ≡ pos (natAbs χ)
+  pub low : natAbs χ < courses
+
 abbrev pub Aimed : Plan → Type 0
-Aimed p = (i : ℕ) → i < mostPoints → courseOf p i < courses
+Aimed p = (i : ℕ) → i < mostPoints → IsCourse (numberAt (p .courses) i)
 
 -- 11 has passed a plan of fillets
 abbrev pub Turns : Plan → Type 0
-Turns p = (i : ℕ) → 1 ≤ i → i + 1 < p .count → turnOf (pointOf p (i - 1)) (pointOf p i) (pointOf p (i + 1)) ≤ mostTurn
+Turns p = (i : ℕ) → 1 ≤ i → i + 1 < p .head .count → turnOf (pointOf p (i - 1)) (pointOf p i) (pointOf p (i + 1)) ≤ mostTurn
 
 -- before the rules are asked
 pub record Bounded (p : Plan) : Type 0 where
   pub ranged : Ranged p
-  pub radius : p .radius ≤ mostRadius
+  pub radius : p .head .radius ≤ mostRadius
   pub aimed : Aimed p
 
--- and once 8 has passed
-pub record Counted (p : Plan) : Type 0 where
-  pub bounded : Bounded p
-  pub least : fewestPoints ≤ p .count
-  pub most : p .count ≤ mostPoints
+-- ---- of lent numbers: those of a place are there
+pub record There (norths easts downs : List ℤ) (i : ℕ) : Type 0 where
+  pub north : i < length norths
+  pub east : i < length easts
+  pub down : i < length downs
+
+-- and its point lies in the area
+pub record Placed (norths easts downs : List ℤ) (i : ℕ) : Type 0 where
+  pub there : There norths easts downs i
+  pub area : InArea (placeAt norths easts downs i)
+
+pub record Aiming (courses : List ℤ) (i : ℕ) : Type 0 where
+  pub there : i < length courses
+  pub course : IsCourse (numberAt courses i)
+
+-- once 8 has passed
+pub record Counted (norths easts downs : List ℤ) (n : ℕ) : Type 0 where
+  pub placed : (i : ℕ) → i < n → Placed norths easts downs i
+  pub least : fewestPoints ≤ n
+
+pub record Fit (R n : ℕ) (norths easts downs courses : List ℤ) : Type 0 where
+  pub counted : Counted norths easts downs n
+  pub radius : R ≤ mostRadius
+  pub aimed : (i : ℕ) → i < n → Aiming courses i
+
+-- all places are there
+pub record Long (norths easts downs courses : List ℤ) : Type 0 where
+  pub north : mostPoints ≤ length norths
+  pub east : mostPoints ≤ length easts
+  pub down : mostPoints ≤ length downs
+  pub course : mostPoints ≤ length courses
 
 -- fillets: each corner's turn; Dubins: each course, and a case for each leg
 abbrev pub ByMode : Mode → Plan → Type 0
 ByMode Lines p = Unit {0}
-ByMode Fillets p = (p .radius ≤ mostRadius) × Turns p
+ByMode Fillets p = (p .head .radius ≤ mostRadius) × Turns p
 ByMode Dubins p =
-    (p .radius ≤ mostRadius)
-    × (Aimed p × ((i : ℕ) → 1 ≤ i → i < p .count → hasPathOf (endsAt (p .radius) (pointOf p) (courseOf p) (i - 1) i) ≡ true))
+    (p .head .radius ≤ mostRadius)
+    × (Aimed p × ((i : ℕ) → 1 ≤ i → i < p .head .count → hasPathOf (endsAt (p .head .radius) (pointOf p) (courseOf p) (i - 1) i) ≡ true))
 
 -- what a plan that stands gives whoever flies it
 pub record Stands (p : Plan) : Type 0 where
-  pub least : fewestPoints ≤ p .count
-  pub most : p .count ≤ mostPoints
+  pub least : fewestPoints ≤ p .head .count
+  pub most : p .head .count ≤ mostPoints
   pub ranged : Ranged p
-  pub mode : ByMode (p .mode) p
+  pub mode : ByMode (p .head .mode) p

@@ -4,18 +4,21 @@ use plane::Point;
 use refusals::Refusal;
 ghost use mathlib.Core.Path.{_≡_};
 ghost use mathlib.Core.Bool.{true};
-ghost use Prim.Native.Nat.{ℕ, _-_, _≤_};
+ghost use Prim.Native.Nat.{ℕ, _+_, _-_, _≤_, _<_};
 ghost use lib.Dec.{eqb, ltb};
+ghost use lib.ListN.{length};
 ghost use Rattle.integers.specs.Choose.{choose};
 ghost use Rattle.refusals.specs.Outcome.{andThen, refusalOf};
 ghost use Rattle.refusals.specs.Sweep.{Done, every};
+ghost use Rattle.course.specs.Bearing.{bearingOf};
 ghost use Rattle.plane.specs.Area.{InArea};
+ghost use Rattle.plane.specs.Level.{levelLegOf};
 ghost use Rattle.dubins.specs.Limits.{IsEnds};
 ghost use Rattle.plan.specs.declared.Mode.the-variants.{Lines, Fillets, Dubins};
-ghost use Rattle.plan.specs.Limits.{mostPoints, mostRadius, withinOf, insideOf, inAreaOf, arcRadius, radiusFits};
-ghost use Rattle.plan.specs.Places.{pointOf, courseOf, coursesAt};
-ghost use Rattle.plan.specs.Rules.{modeOf, coursesFit, pairNumber, cornerNumber, tangentNumber, endsNumber, atPlace, pairsOf, cornersOf, legsOf, geometryOn};
-ghost use Rattle.plan.specs.Stands.{givenOf, pointFits, courseFits, placesFit, rulesOf, standsOf, Ranged, Aimed, Bounded, Counted, Stands};
+ghost use Rattle.plan.specs.Limits.{mostPoints, mostRadius, inAreaOf, betweenOf, numberFits, arcRadius, radiusFits};
+ghost use Rattle.plan.specs.Places.{numberAt, placeAt, courseAt, noCourse, seen};
+ghost use Rattle.plan.specs.Rules.{modeOf, coursesFit, pairNumber, cornerNumber, tangentNumber, endsNumber, atPlace, endsAt, pairAt, cornerAt, pairsOf, cornersOf, legsOf, geometryOn};
+ghost use Rattle.plan.specs.Stands.{givenOf, pointFits, placesFit, rulesOf, standsOf, There, Placed, Aiming, Counted, Fit, Long, Bounded, Stands};
 
 // The most points of a plan, and the fewest.
 pub const POINTS: usize = 64;
@@ -23,9 +26,9 @@ pub const POINTS: usize = 64;
 pub const FEWEST_POINTS: usize = 3;
 
 // The area, in decimetres from its middle.
-pub const MOST_LEVEL: u64 = 500000;
+pub const MOST_LEVEL: u32 = 500000;
 
-pub const MOST_DOWN: u64 = 100000;
+pub const MOST_DOWN: u32 = 100000;
 
 // Radii and courses.
 pub const LEAST_RADIUS: u16 = 50;
@@ -33,6 +36,8 @@ pub const LEAST_RADIUS: u16 = 50;
 pub const MOST_RADIUS: u16 = 10000;
 
 pub const COURSES: u16 = 4096;
+
+const LAST_COURSE: u32 = COURSES as u32 - 1;
 
 // The greatest turn of a fillet corner.
 pub const MOST_TURN: usize = 1792;
@@ -43,38 +48,60 @@ pub enum Mode {
     Dubins,
 }
 
-// A plan. Places past the count are zero, and so are a radius and courses that its mode does not use.
-pub struct Plan {
+// What a plan is beside its points.
+pub struct Head {
     pub serial: u32,
     pub mode: Mode,
     pub radius: u16,
     pub count: usize,
-    pub points: [Point; POINTS],
-    pub courses: [u16; POINTS],
 }
 
-// Whether |z| is at most a limit: two comparisons, which the compiler makes one.
-fn within(z: i32, most: u64) -> bool
-    requires { ⌜ most ≤ 500000 ⌝ }
-    ensures { λ r. ⌜ r ≡ withinOf most z ⌝ }
+// A plan. Places past the count are zero, and so are a radius and courses that its mode does not use.
+pub struct Plan {
+    pub head: Head,
+    pub norths: [i32; POINTS],
+    pub easts: [i32; POINTS],
+    pub downs: [i32; POINTS],
+    pub courses: [i32; POINTS],
+}
+
+// How many numbers the arrays of a plan have, and which stands where when they lie one after another.
+pub const NUMBERS: usize = 4 * POINTS;
+
+pub const NORTH_BLOCK: usize = 0;
+
+pub const EAST_BLOCK: usize = 1;
+
+pub const DOWN_BLOCK: usize = 2;
+
+pub const COURSE_BLOCK: usize = 3;
+
+// The point at a place of lent numbers.
+pub fn point_at<'a>(norths: &'a [i32], easts: &'a [i32], downs: &'a [i32], i: usize) -> Point
+    requires { ⌜ There (now norths) (now easts) (now downs) i ⌝ }
+    ensures { λ r. ⌜ r ≡ placeAt (now (norths .entry)) (now (easts .entry)) (now (downs .entry)) i ⌝ }
+{
+    let north = norths[i];
+    let east = easts[i];
+    let down = downs[i];
+    Point { north, east, down }
+}
+
+// The course at a place of lent numbers.
+pub fn course_at(courses: &[i32], i: usize) -> usize
+    requires { ⌜ Aiming (now courses) i ⌝ }
+    ensures { λ r. ⌜ r ≡ courseAt (now (courses .entry)) i ⌝ }
+{
+    courses[i] as usize
+}
+
+// Whether -low ≤ z ≤ high: two comparisons, which the compiler makes one.
+fn between(z: i32, low: u32, high: u32) -> bool
+    ensures { λ r. ⌜ r ≡ betweenOf low high z ⌝ }
 {
     let wide = z as i64;
-    let limit = most as i64;
-    if wide < 0 - limit {
-        return false;
-    }
-    wide <= limit
-}
-
-// Whether north and east are within one limit and down within another.
-fn inside(p: Point, level: u64, down: u64) -> bool
-    requires { ⌜ (level ≤ 500000) × (down ≤ 500000) ⌝ }
-    ensures { λ r. ⌜ r ≡ insideOf level down p ⌝ }
-{
-    if within(p.north, level) {
-        if within(p.east, level) {
-            return within(p.down, down);
-        }
+    if 0 - (low as i64) <= wide {
+        return wide <= high as i64;
     }
     false
 }
@@ -83,7 +110,12 @@ fn inside(p: Point, level: u64, down: u64) -> bool
 pub fn in_area(p: Point) -> bool
     ensures { λ r. ⌜ (r ≡ inAreaOf p) × (r ≡ true → InArea p) ⌝ }
 {
-    inside(p, MOST_LEVEL, MOST_DOWN)
+    if between(p.north, MOST_LEVEL, MOST_LEVEL) {
+        if between(p.east, MOST_LEVEL, MOST_LEVEL) {
+            return between(p.down, MOST_DOWN, MOST_DOWN);
+        }
+    }
+    false
 }
 
 // The mode of a plan with this radius, 0 for none, and courses given at so many points.
@@ -213,17 +245,24 @@ fn at_place(number: u8, place: usize) -> Refusal
     Refusal { number, place }
 }
 
-// 10 at each pair, by its later point.
-fn pairs(p: Plan) -> Refusal
-    requires { ⌜ Counted p ⌝ }
-    ensures { λ r. ⌜ r ≡ refusalOf (pairsOf (p .count) (pointOf p)) ⌝ }
+// 10 at the pair whose later point is at place i.
+fn pair_at<'a>(norths: &'a [i32], easts: &'a [i32], downs: &'a [i32], i: usize) -> u8
+    requires { ⌜ (1 ≤ i) × (Placed (now norths) (now easts) (now downs) (i - 1) × Placed (now norths) (now easts) (now downs) i) ⌝ }
+    ensures { λ r. ⌜ r ≡ pairAt (placeAt (now (norths .entry)) (now (easts .entry)) (now (downs .entry))) i ⌝ }
 {
-    let n = p.count;
+    let a = point_at(norths, easts, downs, i - 1);
+    let b = point_at(norths, easts, downs, i);
+    pair_number(a, b)
+}
+
+// 10 at each pair, by its later point.
+fn pairs<'a>(norths: &'a [i32], easts: &'a [i32], downs: &'a [i32], n: usize) -> Refusal
+    requires { ⌜ Counted (now norths) (now easts) (now downs) n ⌝ }
+    ensures { λ r. ⌜ r ≡ refusalOf (pairsOf n (placeAt (now (norths .entry)) (now (easts .entry)) (now (downs .entry)))) ⌝ }
+{
     let mut i: usize = 1;
     while i < n {
-        let a = p.points[i - 1];
-        let b = p.points[i];
-        let number = pair_number(a, b);
+        let number = pair_at(norths, easts, downs, i);
         if number == 0 {
             i += 1;
         } else {
@@ -239,18 +278,26 @@ fn pairs(p: Plan) -> Refusal
     }
 }
 
-// 11 at each corner of a plan of lines.
-fn line_corners(p: Plan) -> Refusal
-    requires { ⌜ Counted p ⌝ }
-    ensures { λ r. ⌜ r ≡ refusalOf (cornersOf Lines (p .count) (pointOf p)) ⌝ }
+// 11 at the corner at place i of a plan of lines.
+fn line_corner_at<'a>(norths: &'a [i32], easts: &'a [i32], downs: &'a [i32], i: usize) -> u8
+    requires { ⌜ (1 ≤ i) × (Placed (now norths) (now easts) (now downs) (i - 1) × (Placed (now norths) (now easts) (now downs) i × Placed (now norths) (now easts) (now downs) (i + 1))) ⌝ }
+    ensures { λ r. ⌜ r ≡ cornerAt Lines (placeAt (now (norths .entry)) (now (easts .entry)) (now (downs .entry))) i ⌝ }
 {
-    let last = p.count - 1;
+    let a = point_at(norths, easts, downs, i - 1);
+    let b = point_at(norths, easts, downs, i);
+    let c = point_at(norths, easts, downs, i + 1);
+    line_corner_number(a, b, c)
+}
+
+// 11 at each corner of a plan of lines.
+fn line_corners<'a>(norths: &'a [i32], easts: &'a [i32], downs: &'a [i32], n: usize) -> Refusal
+    requires { ⌜ Counted (now norths) (now easts) (now downs) n ⌝ }
+    ensures { λ r. ⌜ r ≡ refusalOf (cornersOf Lines n (placeAt (now (norths .entry)) (now (easts .entry)) (now (downs .entry)))) ⌝ }
+{
+    let last = n - 1;
     let mut i: usize = 1;
     while i < last {
-        let a = p.points[i - 1];
-        let b = p.points[i];
-        let c = p.points[i + 1];
-        let number = line_corner_number(a, b, c);
+        let number = line_corner_at(norths, easts, downs, i);
         if number == 0 {
             i += 1;
         } else {
@@ -277,17 +324,47 @@ fn leg_found(found: Refusal, a: Point, b: Point, tangents: u64, place: usize) ->
     found
 }
 
+// The bearing of the leg that starts at place i.
+fn bearing_at<'a>(norths: &'a [i32], easts: &'a [i32], downs: &'a [i32], i: usize) -> usize
+    requires { ⌜ Placed (now norths) (now easts) (now downs) i × Placed (now norths) (now easts) (now downs) (i + 1) ⌝ }
+    ensures { λ r. ⌜ (r ≡ bearingOf (levelLegOf (placeAt (now (norths .entry)) (now (easts .entry)) (now (downs .entry)) i) (placeAt (now (norths .entry)) (now (easts .entry)) (now (downs .entry)) (i + 1)))) × (r < 4096) ⌝ }
+{
+    let a = point_at(norths, easts, downs, i);
+    let b = point_at(norths, easts, downs, i + 1);
+    course::bearing(plane::level_leg(a, b))
+}
+
+// What the legs before have found, or else 12 of the leg that ends at place i.
+fn leg_found_at<'a>(
+    norths: &'a [i32],
+    easts: &'a [i32],
+    downs: &'a [i32],
+    i: usize,
+    tangents: u64,
+    found: Refusal,
+) -> Refusal
+    requires { ⌜ (1 ≤ i) × ((Placed (now norths) (now easts) (now downs) (i - 1) × Placed (now norths) (now easts) (now downs) i) × (tangents ≤ 100560)) ⌝ }
+    ensures { λ r. ⌜ r ≡ choose (eqb (found .number) 0) (refusalOf (atPlace (tangentNumber (placeAt (now (norths .entry)) (now (easts .entry)) (now (downs .entry)) (i - 1)) (placeAt (now (norths .entry)) (now (easts .entry)) (now (downs .entry)) i) tangents) (i + 1))) found ⌝ }
+{
+    let a = point_at(norths, easts, downs, i - 1);
+    let b = point_at(norths, easts, downs, i);
+    leg_found(found, a, b, tangents, i + 1)
+}
+
 // 11 at each corner, and then 12 at each leg of a fillet plan by its end point, in one pass: the bearing of each leg and the tangent length
 // of each corner are worked out once and carried along. What a leg finds waits until all corners have passed. The last point has no tangent.
-fn fillet_rules(p: Plan) -> Refusal
-    requires { ⌜ Counted p ⌝ }
-    ensures { λ r. ⌜ r ≡ refusalOf (andThen (cornersOf Fillets (p .count) (pointOf p)) (λ (_ : Done). legsOf Fillets (p .radius) (p .count) (pointOf p) (courseOf p))) ⌝ }
+fn fillet_rules<'a>(
+    norths: &'a [i32],
+    easts: &'a [i32],
+    downs: &'a [i32],
+    n: usize,
+    radius: u64,
+) -> Refusal
+    requires { ⌜ Counted (now norths) (now easts) (now downs) n × (radius ≤ mostRadius) ⌝ }
+    ensures { λ r. ⌜ r ≡ refusalOf (andThen (cornersOf Fillets n (placeAt (now (norths .entry)) (now (easts .entry)) (now (downs .entry)))) (λ (_ : Done). legsOf Fillets radius n (placeAt (now (norths .entry)) (now (easts .entry)) (now (downs .entry))) noCourse)) ⌝ }
 {
-    let radius = p.radius as u64;
-    let last = p.count - 1;
-    let a = p.points[0];
-    let b = p.points[1];
-    let mut before = course::bearing(plane::level_leg(a, b));
+    let last = n - 1;
+    let mut before = bearing_at(norths, easts, downs, 0);
     let mut carried: u64 = 0;
     let mut found = Refusal {
         number: 0,
@@ -295,10 +372,7 @@ fn fillet_rules(p: Plan) -> Refusal
     };
     let mut i: usize = 1;
     while i < last {
-        let a = p.points[i - 1];
-        let b = p.points[i];
-        let c = p.points[i + 1];
-        let after = course::bearing(plane::level_leg(b, c));
+        let after = bearing_at(norths, easts, downs, i);
         let turn = fillets::lesser_turn(before, after);
         if MOST_TURN < turn {
             return Refusal {
@@ -307,36 +381,54 @@ fn fillet_rules(p: Plan) -> Refusal
             };
         }
         let tangent = fillets::tangent_length(radius, turn);
-        found = leg_found(found, a, b, carried + tangent, i + 1);
+        found = leg_found_at(norths, easts, downs, i, carried + tangent, found);
         carried = tangent;
         before = after;
         i += 1;
     }
-    let a = p.points[last - 1];
-    let b = p.points[last];
-    leg_found(found, a, b, carried, last + 1)
+    leg_found_at(norths, easts, downs, last, carried, found)
+}
+
+// 12 and 17 of the leg of a Dubins plan that ends at place i.
+fn dubins_leg_at<'a>(
+    norths: &'a [i32],
+    easts: &'a [i32],
+    downs: &'a [i32],
+    courses: &'a [i32],
+    i: usize,
+    radius: u64,
+) -> u8
+    requires { ⌜ (1 ≤ i) × ((Placed (now norths) (now easts) (now downs) (i - 1) × Placed (now norths) (now easts) (now downs) i) × ((Aiming (now courses) (i - 1) × Aiming (now courses) i) × (radius ≤ mostRadius))) ⌝ }
+    ensures { λ r. ⌜ r ≡ endsNumber (endsAt radius (placeAt (now (norths .entry)) (now (easts .entry)) (now (downs .entry))) (courseAt (now (courses .entry))) (i - 1) i) ⌝ }
+{
+    let start = point_at(norths, easts, downs, i - 1);
+    let end = point_at(norths, easts, downs, i);
+    let leave = course_at(courses, i - 1);
+    let arrive = course_at(courses, i);
+    ends_number(Ends {
+        start,
+        leave,
+        end,
+        arrive,
+        radius,
+    })
 }
 
 // 12 and 17 at each leg of a Dubins plan, by its end point.
-fn dubins_legs(p: Plan) -> Refusal
-    requires { ⌜ Counted p ⌝ }
-    ensures { λ r. ⌜ r ≡ refusalOf (legsOf Dubins (p .radius) (p .count) (pointOf p) (courseOf p)) ⌝ }
+fn dubins_legs<'a>(
+    norths: &'a [i32],
+    easts: &'a [i32],
+    downs: &'a [i32],
+    courses: &'a [i32],
+    n: usize,
+    radius: u64,
+) -> Refusal
+    requires { ⌜ Counted (now norths) (now easts) (now downs) n × (((i : ℕ) → i < n → Aiming (now courses) i) × (radius ≤ mostRadius)) ⌝ }
+    ensures { λ r. ⌜ r ≡ refusalOf (legsOf Dubins radius n (placeAt (now (norths .entry)) (now (easts .entry)) (now (downs .entry))) (courseAt (now (courses .entry)))) ⌝ }
 {
-    let radius = p.radius as u64;
-    let n = p.count;
     let mut i: usize = 1;
     while i < n {
-        let start = p.points[i - 1];
-        let end = p.points[i];
-        let leave = p.courses[i - 1] as usize;
-        let arrive = p.courses[i] as usize;
-        let number = ends_number(Ends {
-            start,
-            leave,
-            end,
-            arrive,
-            radius,
-        });
+        let number = dubins_leg_at(norths, easts, downs, courses, i, radius);
         if number == 0 {
             i += 1;
         } else {
@@ -353,36 +445,56 @@ fn dubins_legs(p: Plan) -> Refusal
 }
 
 // All corners, then all legs. Lines have no rule on legs, and Dubins plans none on corners.
-fn corners_and_legs(p: Plan) -> Refusal
-    requires { ⌜ Counted p ⌝ }
-    ensures { λ r. ⌜ r ≡ refusalOf (andThen (cornersOf (p .mode) (p .count) (pointOf p)) (λ (_ : Done). legsOf (p .mode) (p .radius) (p .count) (pointOf p) (courseOf p))) ⌝ }
+fn corners_and_legs<'a>(
+    head: Head,
+    norths: &'a [i32],
+    easts: &'a [i32],
+    downs: &'a [i32],
+    courses: &'a [i32],
+) -> Refusal
+    requires { ⌜ Fit (head .radius) (head .count) (now norths) (now easts) (now downs) (now courses) ⌝ }
+    ensures { λ r. ⌜ r ≡ refusalOf (andThen (cornersOf (head .mode) (head .count) (placeAt (now (norths .entry)) (now (easts .entry)) (now (downs .entry)))) (λ (_ : Done). legsOf (head .mode) (head .radius) (head .count) (placeAt (now (norths .entry)) (now (easts .entry)) (now (downs .entry))) (courseAt (now (courses .entry))))) ⌝ }
 {
-    let mode = p.mode;
+    let mode = head.mode;
+    let n = head.count;
     match mode {
-        Mode::Lines => line_corners(p),
-        Mode::Fillets => fillet_rules(p),
-        Mode::Dubins => dubins_legs(p),
+        Mode::Lines => line_corners(norths, easts, downs, n),
+        Mode::Fillets => fillet_rules(norths, easts, downs, n, head.radius as u64),
+        Mode::Dubins => dubins_legs(norths, easts, downs, courses, n, head.radius as u64),
     }
 }
 
 // All pairs, then all corners, then all legs.
-fn geometry(p: Plan) -> Refusal
-    requires { ⌜ Counted p ⌝ }
-    ensures { λ r. ⌜ r ≡ refusalOf (geometryOn (p .mode) (p .radius) (p .count) (pointOf p) (courseOf p)) ⌝ }
+fn geometry<'a>(
+    head: Head,
+    norths: &'a [i32],
+    easts: &'a [i32],
+    downs: &'a [i32],
+    courses: &'a [i32],
+) -> Refusal
+    requires { ⌜ Fit (head .radius) (head .count) (now norths) (now easts) (now downs) (now courses) ⌝ }
+    ensures { λ r. ⌜ r ≡ refusalOf (geometryOn (head .mode) (head .radius) (head .count) (placeAt (now (norths .entry)) (now (easts .entry)) (now (downs .entry))) (courseAt (now (courses .entry)))) ⌝ }
 {
-    let pair = pairs(p);
+    let pair = pairs(norths, easts, downs, head.count);
     if pair.number == 0 {
-        return corners_and_legs(p);
+        return corners_and_legs(head, norths, easts, downs, courses);
     }
     pair
 }
 
 // Refusals 8 to 12 and 17 in their order, of a plan with courses given at so many points.
-pub fn rules(p: Plan, given: usize) -> Refusal
-    requires { ⌜ Bounded p ⌝ }
-    ensures { λ r. ⌜ r ≡ refusalOf (rulesOf p given) ⌝ }
+pub fn rules<'a>(
+    head: Head,
+    given: usize,
+    norths: &'a [i32],
+    easts: &'a [i32],
+    downs: &'a [i32],
+    courses: &'a [i32],
+) -> Refusal
+    requires { ⌜ Long (now norths) (now easts) (now downs) (now courses) × Bounded (seen head (now norths) (now easts) (now downs) (now courses)) ⌝ }
+    ensures { λ r. ⌜ r ≡ refusalOf (rulesOf (seen head (now (norths .entry)) (now (easts .entry)) (now (downs .entry)) (now (courses .entry))) given) ⌝ }
 {
-    let count = p.count;
+    let count = head.count;
     if count < FEWEST_POINTS {
         return Refusal {
             number: refusals::POINT_COUNT,
@@ -395,8 +507,8 @@ pub fn rules(p: Plan, given: usize) -> Refusal
             place: 0,
         };
     }
-    if courses_fit(p.radius, given, count) {
-        return geometry(p);
+    if courses_fit(head.radius, given, count) {
+        return geometry(head, norths, easts, downs, courses);
     }
     Refusal {
         number: refusals::COURSE_COUNT,
@@ -404,33 +516,16 @@ pub fn rules(p: Plan, given: usize) -> Refusal
     }
 }
 
-// Whether the points from one place to below another are inside limits of north and east, and of down.
-fn points_inside(p: Plan, from: usize, to: usize, level: u64, down: u64) -> bool
-    requires { ⌜ (to ≤ mostPoints) × ((level ≤ 500000) × (down ≤ 500000)) ⌝ }
-    ensures { λ r. ⌜ r ≡ every (λ (i : ℕ). insideOf level down (pointOf p i)) (to - from) from ⌝ }
-{
-    let mut i = from;
-    while i < to {
-        let point = p.points[i];
-        if inside(point, level, down) {
-            i += 1;
-        } else {
-            return false;
-        }
-    }
-    true
-}
-
-// Whether the values from one place to below another are below a limit. Those that are not are counted: without a way out of the loop the
+// Whether the values from one place to below another lie between limits. Those that do not are counted: without a way out of the loop the
 // compiler takes several at once.
-fn values_below(values: &[u16; POINTS], from: usize, to: usize, limit: u16) -> bool
-    requires { ⌜ to ≤ mostPoints ⌝ }
-    ensures { λ r. ⌜ r ≡ every (λ (i : ℕ). ltb (coursesAt (now (values .entry)) i) limit) (to - from) from ⌝ }
+fn values_between(values: &[i32], from: usize, to: usize, low: u32, high: u32) -> bool
+    requires { ⌜ (to ≤ mostPoints) × (to ≤ length (now values)) ⌝ }
+    ensures { λ r. ⌜ r ≡ every (λ (i : ℕ). betweenOf low high (numberAt (now (values .entry)) i)) (to - from) from ⌝ }
 {
-    let mut over: u16 = 0;
+    let mut over: u32 = 0;
     let mut i = from;
     while i < to {
-        if limit <= values[i] {
+        if !between(values[i], low, high) {
             over += 1;
         }
         i += 1;
@@ -438,57 +533,78 @@ fn values_below(values: &[u16; POINTS], from: usize, to: usize, limit: u16) -> b
     over == 0
 }
 
+// Whether the values of the places in use lie between limits and the others are zero.
+fn number_places_fit(values: &[i32], used: usize, low: u32, high: u32) -> bool
+    requires { ⌜ (used ≤ mostPoints) × (mostPoints ≤ length (now values)) ⌝ }
+    ensures { λ r. ⌜ r ≡ every (λ (i : ℕ). numberFits (ltb i used) low high (numberAt (now (values .entry)) i)) (mostPoints - 0) 0 ⌝ }
+{
+    if values_between(values, 0, used, low, high) {
+        return values_between(values, used, POINTS, 0, 0);
+    }
+    false
+}
+
 // Whether the points in use lie in the area and the others are zero.
-fn point_places_fit(p: Plan) -> bool
-    requires { ⌜ p .count ≤ mostPoints ⌝ }
-    ensures { λ r. ⌜ r ≡ every (λ (i : ℕ). pointFits (ltb i (p .count)) (pointOf p i)) (mostPoints - 0) 0 ⌝ }
+fn point_places_fit<'a>(norths: &'a [i32], easts: &'a [i32], downs: &'a [i32], n: usize) -> bool
+    requires { ⌜ (n ≤ mostPoints) × ((mostPoints ≤ length (now norths)) × ((mostPoints ≤ length (now easts)) × (mostPoints ≤ length (now downs)))) ⌝ }
+    ensures { λ r. ⌜ r ≡ every (λ (i : ℕ). pointFits (ltb i n) (placeAt (now (norths .entry)) (now (easts .entry)) (now (downs .entry)) i)) (mostPoints - 0) 0 ⌝ }
 {
-    let n = p.count;
-    if points_inside(p, 0, n, MOST_LEVEL, MOST_DOWN) {
-        return points_inside(p, n, POINTS, 0, 0);
+    if number_places_fit(norths, n, MOST_LEVEL, MOST_LEVEL) {
+        if number_places_fit(easts, n, MOST_LEVEL, MOST_LEVEL) {
+            return number_places_fit(downs, n, MOST_DOWN, MOST_DOWN);
+        }
     }
     false
 }
 
-// Whether the given courses are courses and the others are zero, which is below 1.
-fn course_places_fit(values: &[u16; POINTS], given: usize) -> bool
-    requires { ⌜ given ≤ mostPoints ⌝ }
-    ensures { λ r. ⌜ r ≡ every (λ (i : ℕ). courseFits (ltb i given) (coursesAt (now (values .entry)) i)) (mostPoints - 0) 0 ⌝ }
+// Whether every place of a plan fits, the unused ones too.
+fn places_fit<'a>(
+    head: Head,
+    norths: &'a [i32],
+    easts: &'a [i32],
+    downs: &'a [i32],
+    courses: &'a [i32],
+) -> bool
+    requires { ⌜ (head .count ≤ mostPoints) × Long (now norths) (now easts) (now downs) (now courses) ⌝ }
+    ensures { λ r. ⌜ r ≡ placesFit (seen head (now (norths .entry)) (now (easts .entry)) (now (downs .entry)) (now (courses .entry))) ⌝ }
 {
-    if values_below(values, 0, given, COURSES) {
-        return values_below(values, given, POINTS, 1);
-    }
-    false
-}
-
-// Whether every place of a plan fits, the unused ones too: each kind of place in a loop of its own, with one test a place.
-fn places_fit(p: Plan) -> bool
-    requires { ⌜ p .count ≤ mostPoints ⌝ }
-    ensures { λ r. ⌜ (r ≡ placesFit p) × (r ≡ true → Ranged p × Aimed p) ⌝ }
-{
-    let mode = p.mode;
-    let n = p.count;
+    let mode = head.mode;
+    let n = head.count;
     let given = given_of(mode, n);
-    if point_places_fit(p) {
-        return course_places_fit(&p.courses, given);
+    if point_places_fit(norths, easts, downs, n) {
+        return number_places_fit(courses, given, 0, LAST_COURSE);
     }
     false
 }
 
-// Whether a plan breaks no limit and no rule: refusal 14's part on the plan.
-pub fn stands(p: Plan) -> bool
-    ensures { λ r. ⌜ (r ≡ standsOf p) × (r ≡ true → Stands p) ⌝ }
+// Whether lent numbers break no limit and no rule: refusal 14's part on the plan.
+pub fn stands<'a>(
+    head: Head,
+    norths: &'a [i32],
+    easts: &'a [i32],
+    downs: &'a [i32],
+    courses: &'a [i32],
+) -> bool
+    requires { ⌜ Long (now norths) (now easts) (now downs) (now courses) ⌝ }
+    ensures { λ r. ⌜ (r ≡ standsOf (seen head (now (norths .entry)) (now (easts .entry)) (now (downs .entry)) (now (courses .entry)))) × (r ≡ true → Stands (seen head (now (norths .entry)) (now (easts .entry)) (now (downs .entry)) (now (courses .entry)))) ⌝ }
 {
-    if p.serial == 0 {
+    if head.serial == 0 {
         return false;
     }
-    if POINTS < p.count {
+    if POINTS < head.count {
         return false;
     }
-    let mode = p.mode;
-    if radius_fits(mode, p.radius) {
-        if places_fit(p) {
-            let found = rules(p, given_of(mode, p.count));
+    let mode = head.mode;
+    if radius_fits(mode, head.radius) {
+        if places_fit(head, norths, easts, downs, courses) {
+            let found = rules(
+                head,
+                given_of(mode, head.count),
+                norths,
+                easts,
+                downs,
+                courses,
+            );
             return found.number == 0;
         }
     }

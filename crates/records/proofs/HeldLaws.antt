@@ -1,56 +1,51 @@
--- Lists in arrays: one element more, stored or only counted, and the structs that hold them. Assumes nothing.
-use mathlib.Core.Path.{_≡_, refl, ap}
+-- Parts as the code holds them, and after one record more: a tally, and the numbers in which an element is stored or only counted. Assumes
+-- nothing.
+use mathlib.Core.Path.{_≡_, refl, ap, _∙_}
 use mathlib.Core.Bool.{true, false}
 use mathlib.Core.List.{List, [], _∷_, _++_}
-use Prim.Native.Nat.{ℕ, zero, suc, _+_, _≤_, _<_}
+use Prim.Native.Nat.{ℕ, zero, suc, _+_, _*_, _≤_, _<_}
 use native.Mathlib.Omega.{arith}
-use lib.ListN.{length, set, length-append}
+use lib.IntN.{ℤ, pos}
+use lib.ListN.{length, getD, set, length-append}
 use Rattle.plane.specs.declared.Point.{Point}
 use Rattle.plan.specs.Limits.{mostPoints}
-use Rattle.plan.specs.Places.{noPoint, padded}
+use Rattle.plan.specs.declared.Plan.{Plan}
+use Rattle.plan.specs.Places.{padded, planNumbers}
+use Rattle.plan.specs.Loaded.{planOf}
+use Rattle.plan.proofs.BlockLaws.{padded-length, joined, Blocks, numbers-joined, set-joined, loaded-length}
 use Rattle.records.specs.declared.Tally.{Tally}
-use Rattle.records.specs.declared.Gathered.{Gathered}
 use Rattle.records.specs.Kinds.{Parts, withPoint, withRadius, withCourse}
-use Rattle.records.specs.Held.{counted, tallyOf}
+use Rattle.records.specs.Held.{counted, tallyOf, numbersIn}
 
 -- ---- one more in an array
-pub padded-more : {A : Type 0} (n : ℕ) (d : A) (xs : List A) (x : A) → length xs < n → set (padded n d xs) (length xs) x ≡ padded n d (xs ++ (x ∷ []))
+padded-more : {A B : Type 0} (f : A → B) (n : ℕ) (d : B) (xs : List A) (x : A) → length xs < n
+    → set (padded f n d xs) (length xs) (f x) ≡ padded f n d (xs ++ (x ∷ []))
 unfolding padded
-padded-more zero d xs x h = absurd (omega arith)
-padded-more (suc n) d [] x h = refl
-padded-more {A = A} (suc n) d (y ∷ xs) x h = ap (λ (l : List A). y ∷ l) (padded-more n d xs x (omega arith))
+padded-more f zero d xs x h = absurd (omega arith)
+padded-more f (suc n) d [] x h = refl
+padded-more {B = B} f (suc n) d (y ∷ xs) x h = ap (λ (l : List B). f y ∷ l) (padded-more f n d xs x (omega arith))
 
-pub padded-full : {A : Type 0} (n : ℕ) (d : A) (xs : List A) (x : A) → n ≤ length xs → padded n d (xs ++ (x ∷ [])) ≡ padded n d xs
+padded-full : {A B : Type 0} (f : A → B) (n : ℕ) (d : B) (xs : List A) (x : A) → n ≤ length xs → padded f n d (xs ++ (x ∷ [])) ≡ padded f n d xs
 unfolding padded
-padded-full zero d xs x h = refl
-padded-full (suc n) d [] x h = absurd (omega arith)
-padded-full {A = A} (suc n) d (y ∷ xs) x h = ap (λ (l : List A). y ∷ l) (padded-full n d xs x (omega arith))
+padded-full f zero d xs x h = refl
+padded-full f (suc n) d [] x h = absurd (omega arith)
+padded-full {B = B} f (suc n) d (y ∷ xs) x h = ap (λ (l : List B). f y ∷ l) (padded-full f n d xs x (omega arith))
 
-module _ {A : Type 0} (d : A) (xs : List A) (x : A) where
-  stored : counted (length xs) < mostPoints → set (padded mostPoints d xs) (counted (length xs)) x ≡ padded mostPoints d (xs ++ (x ∷ []))
+abbrev kept : {A : Type 0} → (A → ℤ) → List A → List ℤ
+kept f xs = padded f mostPoints (pos 0) xs
+
+module _ {A : Type 0} (f : A → ℤ) (xs : List A) (x : A) {i : ℕ} (e : i ≡ counted (length xs)) where
+  stored : i < mostPoints → set (kept f xs) i (f x) ≡ kept f (xs ++ (x ∷ []))
   stored room =
-      let e : counted (length xs) ≡ length xs = omega arith in
-      rw e (padded-more mostPoints d xs x (omega arith))
+      let k : i ≡ length xs = omega arith in
+      rw k (padded-more f mostPoints (pos 0) xs x (omega arith))
 
-  over : mostPoints ≤ counted (length xs) → padded mostPoints d (xs ++ (x ∷ [])) ≡ padded mostPoints d xs
-  over full = padded-full mostPoints d xs x (omega arith)
+  over : mostPoints ≤ i → kept f (xs ++ (x ∷ [])) ≡ kept f xs
+  over full = padded-full f mostPoints (pos 0) xs x (omega arith)
 
 -- ---- one more in a count
 counted-more : {A : Type 0} (xs : List A) (x : A) → counted (counted (length xs) + 1) ≡ counted (length (xs ++ (x ∷ [])))
 counted-more xs x = rw length-append (omega arith)
-
--- ---- what the loop has stored: the arrays, with the counts left for the end
-abbrev pub storedOf : Parts → Gathered
-storedOf a =
-    record {
-      refusal = 0;
-      place = 0;
-      radius = 0;
-      count = 0;
-      given = 0;
-      points = padded mostPoints noPoint (a .points);
-      courses = padded mostPoints 0 (a .courses);
-    }
 
 -- ---- the fields of a tally, and after one record more
 module _ {t : Tally} (a : Parts) (shown : t ≡ tallyOf a) where
@@ -62,7 +57,7 @@ module _ {t : Tally} (a : Parts) (shown : t ≡ tallyOf a) where
   unfolding tallyOf
   same-count = ap (λ (x : Tally). x .count) shown
 
-  same-given : t .given ≡ counted (length (a .courses))
+  pub same-given : t .given ≡ counted (length (a .courses))
   unfolding tallyOf
   same-given = ap (λ (x : Tally). x .given) shown
 
@@ -85,21 +80,47 @@ module _ {t : Tally} (a : Parts) (shown : t ≡ tallyOf a) where
   unfolding tallyOf
   course-tallied c e = rw (e, shown, counted-more (a .courses) c)
 
-  module _ {g : Gathered} (kept : g ≡ storedOf a) where
-    pub point-stored : (p : Point) → t .count < mostPoints
-        → _≡_ {A = Gathered}
-        (record { refusal = g .refusal; place = g .place; radius = g .radius; count = g .count; given = g .given; points = set (g .points) (t .count) p; courses = g .courses })
-        (storedOf (withPoint a p))
-    point-stored p room = rw (kept, same-count, stored noPoint (a .points) p (rw same-count at room))
+-- ---- the numbers, after one record more
+abbrev planIn : Parts → Plan
+planIn a = planOf 0 (a .radius) (a .points) (a .courses)
 
-    pub point-over : (p : Point) → mostPoints ≤ t .count → g ≡ storedOf (withPoint a p)
-    point-over p full = rw (kept, over noPoint (a .points) p (rw same-count at full))
+pub numbers-length : (a : Parts) → length (numbersIn a) ≡ planNumbers
+numbers-length a = loaded-length 0 (a .radius) (a .points) (a .courses)
 
-    pub course-stored : (c : ℕ) → t .given < mostPoints
-        → _≡_ {A = Gathered}
-        (record { refusal = g .refusal; place = g .place; radius = g .radius; count = g .count; given = g .given; points = g .points; courses = set (g .courses) (t .given) c })
-        (storedOf (withCourse a c))
-    course-stored c room = rw (kept, same-given, stored 0 (a .courses) c (rw same-given at room))
+-- the blocks while a point is stored, each kind of its numbers after the other
+abbrev held : List Point → List Point → List Point → List ℕ → List (List ℤ)
+held ns es ds cs = kept (λ (q : Point). q .north) ns ∷ kept (λ (q : Point). q .east) es ∷ kept (λ (q : Point). q .down) ds ∷ kept pos cs ∷ []
 
-    pub course-over : (c : ℕ) → mostPoints ≤ t .given → g ≡ storedOf (withCourse a c)
-    course-over c full = rw (kept, over 0 (a .courses) c (rw same-given at full))
+-- a number stored in the k-th
+module _ (ns es ds : List Point) (cs : List ℕ) (k i : ℕ) (x : ℤ) where
+  put-in : {b : List ℤ} → k < 4 → i < mostPoints → set (getD (held ns es ds cs) k []) i x ≡ b
+      → set (joined (held ns es ds cs)) (k * mostPoints + i) x ≡ joined (set (held ns es ds cs) k b)
+  put-in h l e =
+      let s : Blocks (held ns es ds cs) = (padded-length _ mostPoints _ ns, (padded-length _ mostPoints _ es, (padded-length _ mostPoints _ ds, (padded-length _ mostPoints _ cs, tt)))) in
+      set-joined k i x (held ns es ds cs) s h l ∙ ap (λ (y : List ℤ). joined (set (held ns es ds cs) k y)) e
+
+module _ (a : Parts) {i : ℕ} where
+  module _ (p : Point) (e : i ≡ counted (length (a .points))) where
+    pub point-put : i < mostPoints
+        → set (set (set (numbersIn a) (0 * mostPoints + i) (p .north)) (1 * mostPoints + i) (p .east)) (2 * mostPoints + i) (p .down) ≡ numbersIn (withPoint a p)
+    point-put l =
+        let ps = a .points in
+        let qs = a .points ++ (p ∷ []) in
+        let cs = a .courses in
+        let n = put-in ps ps ps cs 0 i (p .north) (omega arith) l (stored (λ (q : Point). q .north) ps p e l) in
+        let m = put-in qs ps ps cs 1 i (p .east) (omega arith) l (stored (λ (q : Point). q .east) ps p e l) in
+        let d = put-in qs qs ps cs 2 i (p .down) (omega arith) l (stored (λ (q : Point). q .down) ps p e l) in
+        rw (numbers-joined (planIn a), n, m, d, numbers-joined (planIn (withPoint a p)))
+
+    pub point-over : mostPoints ≤ i → numbersIn (withPoint a p) ≡ numbersIn a
+    point-over h =
+        rw (over (λ (q : Point). q .north) (a .points) p e h, over (λ (q : Point). q .east) (a .points) p e h, over (λ (q : Point). q .down) (a .points) p e h)
+
+  module _ (c : ℕ) (e : i ≡ counted (length (a .courses))) where
+    pub course-put : i < mostPoints → set (numbersIn a) (3 * mostPoints + i) (pos c) ≡ numbersIn (withCourse a c)
+    course-put l =
+        let ps = a .points in
+        rw (numbers-joined (planIn a), put-in ps ps ps (a .courses) 3 i (pos c) (omega arith) l (stored pos (a .courses) c e l), numbers-joined (planIn (withCourse a c)))
+
+    pub course-over : mostPoints ≤ i → numbersIn (withCourse a c) ≡ numbersIn a
+    course-over h = rw (over pos (a .courses) c e h)

@@ -5,11 +5,13 @@ use Prim.Native.Nat.{ℕ, _+_, _-_, _≤_, _<_}
 use native.Mathlib.Nat.{add-sub-cancel-left}
 use native.Mathlib.Omega.{arith}
 use lib.Dec.{leb}
+use lib.IntN.{ℤ}
 use lib.ListN.{length, getD, take, drop, length-drop}
 use lib.Seq.{length-take-le}
 use borrow.Author.Tests.{leb-true, leb-false, le-leb, lt-leb}
 use Rattle.integers.proofs.ChooseLaws.{choose-true, choose-false}
-use Rattle.refusals.specs.Outcome.{good}
+use Rattle.refusals.specs.Numbers.{wrongRecord, tooNew}
+use Rattle.refusals.specs.Outcome.{Outcome, good, refused}
 use Rattle.refusals.proofs.Bools.{by-bool}
 use Rattle.plane.specs.declared.Point.{Point}
 use Rattle.records.specs.declared.Effect.{Effect}
@@ -18,8 +20,7 @@ use Rattle.records.specs.declared.Tally.{Tally}
 use Rattle.records.specs.declared.Gathered.{Gathered}
 use Rattle.records.specs.Kinds.{Parts, noParts, withPoint, withRadius, withCourse, takes, wrong, judge}
 use Rattle.records.specs.Gather.{after, gather, gatherFrom, headerLength, endAt, bodyAt, wholeEnd, verdictAt}
-use Rattle.records.specs.Held.{tallyOf, verdictOf, answerOf, gatheredOf}
-use Rattle.records.proofs.HeldLaws.{storedOf}
+use Rattle.records.specs.Held.{tallyOf, verdictOf, numbersIn, answerOf, gatheredOf}
 use Rattle.records.proofs.RuleLaws.{not-wrong}
 use Rattle.records.proofs.WalkLaws.{walk-at-end, walk-at-cut, walk-at-more}
 
@@ -108,12 +109,12 @@ module _ (r v : ℕ) (file : List ℕ) (at : ℕ) (a : Parts) where
       j ∙ rw p (sym (verdict-whole (rw (w .ends) at (w .inside))))
 
 -- ---- the loop
-module _ (r v : ℕ) (file : List ℕ) (at : ℕ) (t : Tally) (g : Gathered) where
+module _ (r v : ℕ) (file : List ℕ) (at : ℕ) (t : Tally) (ns : List ℤ) where
   -- at an offset: some parts are gathered, and what is left to gather after them is what the whole walk gives
   pub record Gathers : Type 0 where
     pub parts : Parts
     pub tallied : t ≡ tallyOf parts
-    pub stored : g ≡ storedOf parts
+    pub stored : ns ≡ numbersIn parts
     pub left : gatherFrom r v file at parts ≡ gatherFrom r v file headerLength noParts
 
   -- the record that stands there ends at `to`, and has the effect x
@@ -122,6 +123,11 @@ module _ (r v : ℕ) (file : List ℕ) (at : ℕ) (t : Tally) (g : Gathered) whe
     pub inside : at < length file
     pub ends : to ≡ wholeEnd file at
     pub judged : verdictOf (so-far .parts) x ≡ verdictAt r v file at (so-far .parts)
+
+-- a refusal is the answer
+pub refused-shown : {o : Outcome Parts} {number at : ℕ} → o ≡ refused number at → answerOf number at noParts ≡ gatheredOf o
+unfolding gatheredOf
+refused-shown e = rw e
 
 -- what a turn takes in
 module _ (a : Parts) {x : Effect} where
@@ -141,8 +147,8 @@ module _ (a : Parts) {x : Effect} where
   unfolding verdictOf
   takes-course e = rw e
 
-module _ {r v : ℕ} {file : List ℕ} {at : ℕ} {t : Tally} {g : Gathered} where
-  module _ {to : ℕ} {x : Effect} (n : Turn r v file at t g to x) where
+module _ {r v : ℕ} {file : List ℕ} {at : ℕ} {t : Tally} {ns : List ℤ} where
+  module _ {to : ℕ} {x : Effect} (n : Turn r v file at t ns to x) where
     onward : gatherFrom r v file headerLength noParts ≡ after (verdictOf (n .so-far .parts) x) at (λ (b : Parts). gatherFrom r v file (endAt file at) b)
     onward = sym (n .so-far .left) ∙ gather-step r v file at (n .so-far .parts) (n .inside) ∙ rw (n .judged)
 
@@ -157,23 +163,29 @@ module _ {r v : ℕ} {file : List ℕ} {at : ℕ} {t : Tally} {g : Gathered} whe
       unfolding endAt
       further = omega (arith, ends-there, n .inside)
 
-      pub again : {u : Tally} {h : Gathered} → u ≡ tallyOf b → h ≡ storedOf b → Gathers r v file to u h
+      pub again : {u : Tally} {ms : List ℤ} → u ≡ tallyOf b → ms ≡ numbersIn b → Gathers r v file to u ms
       unfolding after
       again k m = record { parts = b; tallied = k; stored = m; left = rw ends-there (sym (onward ∙ rw taken)) }
 
     -- the record is refused
-    pub all-wrong : x ≡ Wrong → gatheredOf (gatherFrom r v file headerLength noParts) ≡ answerOf 6 at noParts
-    unfolding gatheredOf verdictOf after
+    pub all-wrong : x ≡ Wrong → gatherFrom r v file headerLength noParts ≡ refused wrongRecord at
+    unfolding verdictOf after
     all-wrong e = rw (onward, e)
 
-    pub all-new : x ≡ TooNew → gatheredOf (gatherFrom r v file headerLength noParts) ≡ answerOf 7 at noParts
-    unfolding gatheredOf verdictOf after
+    pub all-new : x ≡ TooNew → gatherFrom r v file headerLength noParts ≡ refused tooNew at
+    unfolding verdictOf after
     all-new e = rw (onward, e)
 
   -- the walk is at its end
-  pub all-gathered : (i : Gathers r v file at t g) → length file ≤ at
-      → _≡_ {A = Gathered}
-      (record { refusal = g .refusal; place = g .place; radius = t .radius; count = t .count; given = t .given; points = g .points; courses = g .courses })
-      (gatheredOf (gatherFrom r v file headerLength noParts))
-  unfolding gatheredOf tallyOf
-  all-gathered i l = rw (← i .left, gather-end r v file at (i .parts) l, i .stored, i .tallied)
+  module _ (i : Gathers r v file at t ns) (l : length file ≤ at) where
+    all : gatherFrom r v file headerLength noParts ≡ good (i .parts)
+    all = sym (i .left) ∙ gather-end r v file at (i .parts) l
+
+    pub all-gathered : _≡_ {A = Gathered}
+        (record { refusal = 0; place = 0; radius = t .radius; count = t .count; given = t .given })
+        (gatheredOf (gatherFrom r v file headerLength noParts))
+    unfolding gatheredOf tallyOf
+    all-gathered = rw (all, i .tallied)
+
+    pub all-stored : (a : Parts) → gatherFrom r v file headerLength noParts ≡ good a → ns ≡ numbersIn a
+    all-stored a e = let k : i .parts ≡ a = let q = sym all ∙ e in cc in i .stored ∙ ap numbersIn k

@@ -1,10 +1,13 @@
--- The structs of the code, by what the definitions of the records give. Points and courses lie in arrays of a plan's length: what is over is
--- counted up to one and not stored, which is all that refusals 8 and 9 ask. Assumes nothing.
+-- The structs of the code and the numbers that it fills, by what the definitions of the records give. Points and courses lie in arrays of a
+-- plan's length: what is over is counted up to one and not stored, which is all that refusals 8 and 9 ask. Assumes nothing.
+use mathlib.Core.List.{List}
 use Prim.Native.Nat.{ℕ, _+_, min}
+use lib.IntN.{ℤ}
 use lib.ListN.{length}
 use Rattle.refusals.specs.Outcome.{Outcome, good, refused}
 use Rattle.plan.specs.Limits.{mostPoints}
-use Rattle.plan.specs.Places.{noPoint, padded}
+use Rattle.plan.specs.Places.{numbersOf}
+use Rattle.plan.specs.Loaded.{planOf}
 use Rattle.records.specs.declared.Effect.{Effect}
 use Rattle.records.specs.declared.Effect.the-variants.{Nothing, AddPoint, SetRadius, AddCourse, Wrong, TooNew}
 use Rattle.records.specs.declared.Tally.{Tally}
@@ -34,7 +37,11 @@ verdictOf a (AddCourse c) = takes (withCourse a c)
 verdictOf a Wrong = wrong
 verdictOf a TooNew = beyond
 
--- parts as the answer
+-- the numbers of the plan that parts make, whatever its serial
+abbrev pub numbersIn : Parts → List ℤ
+numbersIn a = numbersOf (planOf 0 (a .radius) (a .points) (a .courses))
+
+-- parts as the answer, which has no points and no courses
 abbrev pub answerOf : ℕ → ℕ → Parts → Gathered
 answerOf number place a =
     record {
@@ -43,8 +50,6 @@ answerOf number place a =
       radius = a .radius;
       count = counted (length (a .points));
       given = counted (length (a .courses));
-      points = padded mostPoints noPoint (a .points);
-      courses = padded mostPoints 0 (a .courses);
     }
 
 -- the parts that the whole walk gives, or a refusal and nothing else

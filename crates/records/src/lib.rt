@@ -5,11 +5,14 @@ use plan::MOST_RADIUS;
 use plan::POINTS;
 use plane::Point;
 ghost use mathlib.Core.Path.{_≡_};
-ghost use Prim.Native.Nat.{ℕ, _+_};
-ghost use lib.ListN.{getD};
+ghost use Prim.Native.Nat.{ℕ, _+_, _*_, _<_};
+ghost use lib.ListN.{length, getD, set};
+ghost use Rattle.refusals.specs.Outcome.{good};
+ghost use Rattle.plan.specs.Limits.{mostPoints};
+ghost use Rattle.plan.specs.Places.{planNumbers};
 ghost use Rattle.records.specs.Numbers.{u16At, u32At, i32At};
 ghost use Rattle.records.specs.Gather.{headerLength, gatherFrom, wholeEnd, verdictAt};
-ghost use Rattle.records.specs.Held.{counted, tallyOf, verdictOf, answerOf, gatheredOf};
+ghost use Rattle.records.specs.Held.{counted, tallyOf, verdictOf, numbersIn, answerOf, gatheredOf};
 ghost use Rattle.records.specs.Kinds.{rowOf, knows, between, Parts, noParts, withPoint, withRadius, withCourse, pointOf, pointRule, radiusRule, courseRule, optionalRule, valueRule, knownRule, unknownRule, judge};
 
 // The first three bytes of a file, "WPL".
@@ -116,15 +119,13 @@ struct Tally {
     follows: bool,
 }
 
-// What a file's records give, or a refusal with its place and nothing else.
+// What a file's records give beside the points and courses themselves, or a refusal with its place and nothing else.
 pub struct Gathered {
     pub refusal: u8,
     pub place: usize,
     pub radius: u16,
     pub count: usize,
     pub given: usize,
-    pub points: [Point; POINTS],
-    pub courses: [u16; POINTS],
 }
 
 // The row of a kind, or one since version 0, which no reader has.
@@ -400,63 +401,84 @@ fn effect_at(file: &[u8], reader: u32, version: u16, at: usize, to: usize, befor
     effect_of(reader, version, file[at], &file[from..to], before)
 }
 
-// An answer with no points and no courses, for a refusal or to begin with.
+// A number at a place of one of the blocks.
+fn put_number(number: i32, block: usize, i: usize, numbers: &mut [i32])
+    requires { ⌜ (block < 4) × ((i < mostPoints) × (length (now numbers) ≡ planNumbers)) ⌝ }
+    ensures { λ _. ⌜ now (numbers .exit) ≡ set (now (numbers .entry)) (block * mostPoints + i) number ⌝ }
+{
+    numbers[block * POINTS + i] = number;
+}
+
+// A point behind those that were counted. One past a plan's places is not stored.
+fn put_point(point: Point, count: usize, numbers: &mut [i32])
+    requires { ⌜ length (now numbers) ≡ planNumbers ⌝ }
+    ensures { λ _. ⌜ ((a : Parts) → now (numbers .entry) ≡ numbersIn a → count ≡ counted (length (a .points)) → now (numbers .exit) ≡ numbersIn (withPoint a point)) ⌝ }
+{
+    if count < POINTS {
+        put_number(point.north, plan::NORTH_BLOCK, count, numbers);
+        put_number(point.east, plan::EAST_BLOCK, count, numbers);
+        put_number(point.down, plan::DOWN_BLOCK, count, numbers);
+    }
+}
+
+// A course likewise.
+fn put_course(course: u16, given: usize, numbers: &mut [i32])
+    requires { ⌜ length (now numbers) ≡ planNumbers ⌝ }
+    ensures { λ _. ⌜ ((a : Parts) → now (numbers .entry) ≡ numbersIn a → given ≡ counted (length (a .courses)) → now (numbers .exit) ≡ numbersIn (withCourse a course)) ⌝ }
+{
+    if given < POINTS {
+        put_number(course as i32, plan::COURSE_BLOCK, given, numbers);
+    }
+}
+
+// An answer with nothing in it but a refusal.
 fn nothing_gathered(refusal: u8, place: usize) -> Gathered
     ensures { λ r. ⌜ r ≡ answerOf refusal place noParts ⌝ }
 {
-    let none = Point {
-        north: 0,
-        east: 0,
-        down: 0,
-    };
     Gathered {
         refusal,
         place,
         radius: 0,
         count: 0,
         given: 0,
-        points: [none; POINTS],
-        courses: [0u16; POINTS],
     }
 }
 
-// What a file's records give to a reader, or the first refusal of one. Points and courses past a plan's places are counted, up to one, and not
-// stored. The others are stored where the answer has them: the arrays are large, and a copy for each record would cost more than reading it.
-pub fn gather(file: &[u8], reader: u32, version: u16) -> Gathered
+// What a file's records give to a reader, or the first refusal of one. The points and courses of a plan's places go into the caller's numbers,
+// which are 0 before; those past them are counted, up to one, and not stored. After a refusal the numbers have no meaning.
+pub fn gather(file: &[u8], reader: u32, version: u16, numbers: &mut [i32]) -> Gathered
+    requires { ⌜ now numbers ≡ numbersIn noParts ⌝ }
     ensures { λ r. ⌜ r ≡ gatheredOf (gatherFrom reader version (now (file .entry)) headerLength noParts) ⌝ }
+    ensures { λ _. ⌜ ((a : Parts) → gatherFrom reader version (now (file .entry)) headerLength noParts ≡ good a → now (numbers .exit) ≡ numbersIn a) ⌝ }
 {
     let mut at: usize = HEADER;
     let mut tally = nothing_tallied();
-    let mut gathered = nothing_gathered(0, 0);
     while at < file.len() {
         let to = end_at(file, at);
         let effect = effect_at(file, reader, version, at, to, tally);
         match effect {
             Effect::Nothing => {}
             Effect::AddPoint(point) => {
-                let count = tally.count;
+                put_point(point, tally.count, numbers);
                 tally = with_point(tally);
-                if count < POINTS {
-                    gathered.points[count] = point;
-                }
             }
             Effect::SetRadius(radius) => {
                 tally = with_radius(tally, radius);
             }
             Effect::AddCourse(course) => {
-                let given = tally.given;
+                put_course(course, tally.given, numbers);
                 tally = with_course(tally);
-                if given < POINTS {
-                    gathered.courses[given] = course;
-                }
             }
             Effect::Wrong => return nothing_gathered(refusals::WRONG_RECORD, at),
             Effect::TooNew => return nothing_gathered(refusals::TOO_NEW, at),
         }
         at = to;
     }
-    gathered.radius = tally.radius;
-    gathered.count = tally.count;
-    gathered.given = tally.given;
-    gathered
+    Gathered {
+        refusal: 0,
+        place: 0,
+        radius: tally.radius,
+        count: tally.count,
+        given: tally.given,
+    }
 }

@@ -1,3 +1,4 @@
+pub mod LoadStepLaws
 pub mod LoadLaws
 pub mod NoteLaws
 pub mod HeaderLaws

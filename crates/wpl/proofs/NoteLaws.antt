@@ -1,18 +1,19 @@
 -- The search for a note, record by record, and the part of the file that it gives. Assumes nothing.
-use mathlib.Core.Path.{_≡_, sym, ap, subst, _∙_}
+use mathlib.Core.Path.{_≡_, refl, sym, ap, subst, _∙_}
 use mathlib.Core.Bool.{true, false}
 use mathlib.Core.List.{List, []}
 use Prim.Native.Nat.{ℕ, _+_, _-_, _≤_, _<_}
 use native.Mathlib.Nat.{add-sub-cancel-left}
+use lib.Dec.{eqb}
 use lib.ListN.{length, getD, take, drop}
 use borrow.Author.Tests.{eq-eqb, ne-eqb}
 use Rattle.integers.proofs.ChooseLaws.{choose-true, choose-false}
+use Rattle.refusals.specs.Outcome.{isGood}
 use Rattle.records.specs.Walk.{walk, more}
 use Rattle.records.specs.Kinds.{newest}
 use Rattle.records.specs.Gather.{endAt}
 use Rattle.records.proofs.WalkLaws.{walk-at-end, walk-at-cut, walk-at-more}
 use Rattle.records.proofs.StepLaws.{Whole}
-use Rattle.wpl.specs.declared.Loaded.{Loaded}
 use Rattle.wpl.specs.declared.Span.{Span}
 use Rattle.wpl.specs.declared.Span.the-variants.{At, Nothing}
 use Rattle.wpl.specs.Load.{recordsOf, loadOf, loadedOf}
@@ -45,14 +46,17 @@ module _ (f : List ℕ) (at n : ℕ) where
     note-next h = ap (noteIn n) opened ∙ choose-false _ _ _ h
 
 -- ---- a file that the newest reader refuses has no notes
-module _ (f : List ℕ) (n : ℕ) (x : Loaded) (e : x ≡ loadedOf (loadOf newest f)) where
-  pub note-refused : (x .refusal ≡ 0 → ⊥) → noteOf f n ≡ []
-  unfolding noteOf
-  note-refused h = choose-false _ _ _ (loads-when newest f x e ∙ ne-eqb _ _ h)
+module _ (f : List ℕ) (n number : ℕ) (e : number ≡ loadedOf (loadOf newest f) .refusal) where
+  loads : isGood (loadOf newest f) ≡ eqb number 0
+  loads = loads-when newest f (loadedOf (loadOf newest f)) refl ∙ ap (λ (m : ℕ). eqb m 0) (sym e)
 
-  pub note-loaded : x .refusal ≡ 0 → noteOf f n ≡ noteIn n (recordsOf f)
+  pub note-refused : (number ≡ 0 → ⊥) → noteOf f n ≡ []
   unfolding noteOf
-  note-loaded h = choose-true _ _ _ (loads-when newest f x e ∙ eq-eqb _ _ h)
+  note-refused h = choose-false _ _ _ (loads ∙ ne-eqb _ _ h)
+
+  pub note-loaded : number ≡ 0 → noteOf f n ≡ noteIn n (recordsOf f)
+  unfolding noteOf
+  note-loaded h = choose-true _ _ _ (loads ∙ eq-eqb _ _ h)
 
 -- ---- the part by what was found
 module _ (x : Span) (f : List ℕ) where

@@ -2,62 +2,61 @@
 -- plan that they make is that plan. Assumes nothing.
 use mathlib.Core.Path.{_≡_, refl, sym, ap, _∙_}
 use mathlib.Core.Bool.{Bool, true}
-use mathlib.Core.List.{List, [], _∷_}
-use Prim.Native.Nat.{ℕ, zero, suc, _-_, _≤_, _<_}
+use mathlib.Core.List.{List}
+use Prim.Native.Nat.{ℕ, zero, suc, _+_, _-_, _≤_, _<_}
 use native.Mathlib.Omega.{arith}
-use lib.IntN.{ℤ, pos, negsuc}
-use lib.ListN.{length, take, getD}
-use lib.Seq.{length-take-le, getD-take}
-use borrow.Author.Tests.{leb-true, eqb-true, le-ltb}
+use lib.Dec.{ltb}
+use lib.IntN.{ℤ, pos}
+use lib.ListN.{length, getD, List·getD-eq-default}
+use lib.Seq.{ext-getD}
+use borrow.Author.Tests.{eqb-true, ltb-true, ltb-false, le-ltb}
 use Rattle.integers.proofs.ChooseLaws.{choose-false}
 use Rattle.refusals.specs.Outcome.{isGood}
-use Rattle.refusals.proofs.Bools.{both-first, both-second}
+use Rattle.refusals.proofs.Bools.{by-bool, both-first, both-second}
 use Rattle.refusals.proofs.SweepLaws.{every-means}
 use Rattle.plane.specs.declared.Point.{Point}
 use Rattle.plan.specs.declared.Mode.{Mode}
 use Rattle.plan.specs.declared.Mode.the-variants.{Lines, Fillets, Dubins}
 use Rattle.plan.specs.declared.Plan.{Plan}
-use Rattle.plan.specs.Limits.{mostPoints, courses, withinOf, insideOf, zeroOf, radiusFits}
-use Rattle.plan.specs.Places.{noPoint, pointsAt, coursesAt, pointOf, courseOf, padded}
+use Rattle.plan.specs.Limits.{mostPoints, courses, insideOf, zeroOf, radiusFits}
+use Rattle.plan.specs.Places.{noPoint, coursesAt, numberAt, placeAt, courseAt, pointOf, courseOf, padded, Filled}
 use Rattle.plan.specs.Rules.{modeOf, rulesOn}
 use Rattle.plan.specs.Stands.{givenOf, pointFits, courseFits, valuesFit, placeFits, placesFit, standsOf}
 use Rattle.plan.specs.Loaded.{planOf}
-use Rattle.plan.proofs.LimitLaws.{arc-least, arc-most}
+use Rattle.plan.proofs.BlockLaws.{padded-length}
+use Rattle.plan.proofs.LimitLaws.{zero-means, arc-least, arc-most}
 use Rattle.plan.proofs.LoadedLaws.{given-le}
 use Rattle.plan.proofs.PlaceLaws.{rules-padded}
+use Rattle.plan.proofs.PlannedLaws.{padded-within}
 use Rattle.plan.proofs.StandLaws.{stands-tests, places-mean, mode-given}
-use Rattle.writer.specs.File.{pointsOf, coursesOf}
+use Rattle.writer.specs.File.{listed, pointsOf, coursesOf}
+use Rattle.writer.proofs.PlaceLaws.{listed-length}
 use Rattle.wpl.specs.Load.{rulesIn}
 use Rattle.wpl.specs.Write.{carriedSince}
-use Rattle.wpl.specs.RoundTrip.{Filled}
 use Rattle.wpl.proofs.PlanRecordLaws.{RadiusCarried, PointsCarried, Carried, partsOfPlan}
 
--- ---- a list of which the places from k on are d is its first k, padded
-padded-take : {A : Type 0} (n k : ℕ) (d : A) (xs : List A) → length xs ≡ n → ((i : ℕ) → k ≤ i → i < n → getD xs i d ≡ d)
-    → padded n d (take k xs) ≡ xs
-unfolding padded
-padded-take zero k d [] l h = refl
-padded-take zero k d (x ∷ xs) l h = absurd (omega arith)
-padded-take (suc n) k d [] l h = absurd (omega arith)
-padded-take (suc n) zero d (x ∷ xs) l h =
-    λ t. sym (h 0 (omega arith) (omega arith)) t ∷ padded-take n zero d xs (omega arith) (λ i a b. h (suc i) (omega arith) (omega arith)) t
-padded-take (suc n) (suc k) d (x ∷ xs) l h =
-    λ t. x ∷ padded-take n k d xs (omega arith) (λ i a b. h (suc i) (omega arith) (omega arith)) t
+-- ---- an array that holds a number of each of k elements, and zeros behind them, holds their list
+listed-at : {A : Type 0} (at : ℕ → A) (k j i : ℕ) (d : A) → i < k → getD (listed at k j) i d ≡ at (j + i)
+unfolding listed
+listed-at at zero j i d h = absurd (omega arith)
+listed-at at (suc k) j zero d h = let e : j + 0 ≡ j = omega arith in rw e
+listed-at at (suc k) j (suc i) d h =
+    let e : j + suc i ≡ j + 1 + i = omega arith in
+    rw e (listed-at at k (j + 1) i d (omega arith))
 
--- ---- a point of zeros is none
-zero-number : (z : ℤ) → withinOf 0 z ≡ true → z ≡ pos 0
-unfolding withinOf
-zero-number (pos n) h = ap pos (omega (arith, leb-true n 0 h))
-zero-number (negsuc n) h = absurd (omega (arith, leb-true (suc n) 0 h))
-
-zero-point : (p : Point) → zeroOf p ≡ true → p ≡ noPoint
-unfolding zeroOf insideOf
-zero-point p h =
-    let k = both-second _ _ h in
-    let n = zero-number (p .north) (both-first _ _ h) in
-    let e = zero-number (p .east) (both-first _ _ k) in
-    let d = zero-number (p .down) (both-second _ _ k) in
-    λ t. record { north = n t; east = e t; down = d t }
+module _ {A : Type 0} (f : A → ℤ) (d : A) (at : ℕ → A) (k : ℕ) (numbers : List ℤ) (all : length numbers ≡ mostPoints) where
+  kept : ((i : ℕ) → i < mostPoints → f (at i) ≡ getD numbers i (f d)) → ((i : ℕ) → k ≤ i → i < mostPoints → getD numbers i (f d) ≡ f d)
+      → padded f mostPoints (f d) (listed at k 0) ≡ numbers
+  kept used unused =
+      ext-getD (f d) _ numbers (padded-length f mostPoints (f d) (listed at k 0) ∙ sym all)
+      (λ i l.
+      let h : i < mostPoints = omega (arith, padded-length f mostPoints (f d) (listed at k 0)) in
+      padded-within f mostPoints d (listed at k 0) i h
+      ∙ by-bool (ltb i k)
+      (λ t. ap f (listed-at at k 0 i d (ltb-true i k t)) ∙ (let e : 0 + i ≡ i = omega arith in rw e (used i h)))
+      (λ u.
+      let n = listed-length at k 0 in
+      ap f (List·getD-eq-default (listed at k 0) d {n = i} (omega (arith, ltb-false i k u))) ∙ sym (unused i (ltb-false i k u) h)))
 
 -- ---- what a mode needs of a version
 since-radius : (mode : Mode) (R v : ℕ) → radiusFits mode R ≡ true → carriedSince mode ≤ v → RadiusCarried v R
@@ -74,62 +73,87 @@ since-course Dubins n i v c h = c
 
 module _ (p : Plan) (filled : Filled p) (stands : standsOf p ≡ true) where
   abbrev given : ℕ
-  given = givenOf (p .mode) (p .count)
+  given = givenOf (p .head .mode) (p .head .count)
 
-  count-most : p .count ≤ mostPoints
+  count-most : p .head .count ≤ mostPoints
   count-most = stands-tests p stands .most
 
   given-most : given ≤ mostPoints
-  given-most = omega (arith, count-most, given-le (p .mode) (p .count))
+  given-most = omega (arith, count-most, given-le (p .head .mode) (p .head .count))
 
-  pub points-length : length (pointsOf p) ≡ p .count
-  points-length = length-take-le (p .count) (p .points) (omega (arith, count-most, filled .points))
+  pub points-length : length (pointsOf p) ≡ p .head .count
+  points-length = listed-length (pointOf p) (p .head .count) 0
 
   courses-length : length (coursesOf p) ≡ given
-  courses-length = length-take-le given (p .courses) (omega (arith, given-most, filled .courses))
+  courses-length = listed-length (courseOf p) given 0
 
   -- ---- the places from the count on
   place-fits : (i : ℕ) → i < mostPoints → placeFits p i ≡ true
   unfolding placesFit
   place-fits i l = every-means (placeFits p) (mostPoints - 0) 0 (stands-tests p stands .places) i (omega arith) (omega arith)
 
-  point-unused : (i : ℕ) → p .count ≤ i → i < mostPoints → pointOf p i ≡ noPoint
+  point-unused : (i : ℕ) → p .head .count ≤ i → i < mostPoints → zeroOf (pointOf p i) ≡ true
   unfolding placeFits valuesFit pointFits
-  point-unused i h l =
-      zero-point (pointOf p i) (sym (choose-false _ _ _ (le-ltb i (p .count) h)) ∙ both-first _ _ (place-fits i l))
+  point-unused i h l = sym (choose-false _ _ _ (le-ltb i (p .head .count) h)) ∙ both-first _ _ (place-fits i l)
 
-  course-unused : (i : ℕ) → given ≤ i → i < mostPoints → courseOf p i ≡ 0
+  north-unused : (i : ℕ) → p .head .count ≤ i → i < mostPoints → numberAt (p .norths) i ≡ pos 0
+  unfolding zeroOf insideOf
+  north-unused i h l = zero-means _ (both-first _ _ (point-unused i h l))
+
+  east-unused : (i : ℕ) → p .head .count ≤ i → i < mostPoints → numberAt (p .easts) i ≡ pos 0
+  unfolding zeroOf insideOf
+  east-unused i h l = zero-means _ (both-first _ _ (both-second _ _ (point-unused i h l)))
+
+  down-unused : (i : ℕ) → p .head .count ≤ i → i < mostPoints → numberAt (p .downs) i ≡ pos 0
+  unfolding zeroOf insideOf
+  down-unused i h l = zero-means _ (both-second _ _ (both-second _ _ (point-unused i h l)))
+
+  course-unused : (i : ℕ) → given ≤ i → i < mostPoints → numberAt (p .courses) i ≡ pos 0
   unfolding placeFits valuesFit courseFits
-  course-unused i h l =
-      eqb-true (courseOf p i) 0 (sym (choose-false _ _ _ (le-ltb i given h)) ∙ both-second _ _ (place-fits i l))
+  course-unused i h l = zero-means _ (sym (choose-false _ _ _ (le-ltb i given h)) ∙ both-second _ _ (place-fits i l))
 
-  points-kept : padded mostPoints noPoint (pointsOf p) ≡ p .points
-  points-kept = padded-take mostPoints (p .count) noPoint (p .points) (filled .points) point-unused
+  norths-kept : padded (λ (q : Point). q .north) mostPoints (pos 0) (pointsOf p) ≡ p .norths
+  norths-kept = kept (λ (q : Point). q .north) noPoint (pointOf p) (p .head .count) (p .norths) (filled .north) (λ i l. refl) north-unused
 
-  courses-kept : padded mostPoints 0 (coursesOf p) ≡ p .courses
-  courses-kept = padded-take mostPoints given 0 (p .courses) (filled .courses) course-unused
+  easts-kept : padded (λ (q : Point). q .east) mostPoints (pos 0) (pointsOf p) ≡ p .easts
+  easts-kept = kept (λ (q : Point). q .east) noPoint (pointOf p) (p .head .count) (p .easts) (filled .east) (λ i l. refl) east-unused
+
+  downs-kept : padded (λ (q : Point). q .down) mostPoints (pos 0) (pointsOf p) ≡ p .downs
+  downs-kept = kept (λ (q : Point). q .down) noPoint (pointOf p) (p .head .count) (p .downs) (filled .down) (λ i l. refl) down-unused
+
+  courses-kept : padded pos mostPoints (pos 0) (coursesOf p) ≡ p .courses
+  courses-kept =
+      kept pos 0 (courseOf p) given (p .courses) (filled .course) (λ i l. sym (places-mean p (stands-tests p stands .places) .1 i l .sign)) course-unused
 
   -- ---- the places below it
   point-used : PointsCarried (pointsOf p)
   point-used i l =
       let n = points-length in
       let m = count-most in
-      rw (getD-take (p .count) (p .points) i noPoint (omega arith)) (places-mean p (stands-tests p stands .places) .0 i (omega arith))
+      let e : 0 + i ≡ i = omega arith in
+      rw (listed-at (pointOf p) (p .head .count) 0 i noPoint (omega arith), e) (places-mean p (stands-tests p stands .places) .0 i (omega arith))
 
   course-used : (i : ℕ) → i < length (coursesOf p) → coursesAt (coursesOf p) i < courses
   course-used i l =
       let n = courses-length in
       let m = given-most in
-      rw (getD-take given (p .courses) i 0 (omega arith)) (places-mean p (stands-tests p stands .places) .1 i (omega arith))
+      let e : 0 + i ≡ i = omega arith in
+      rw (listed-at (courseOf p) given 0 i 0 (omega arith), e) (places-mean p (stands-tests p stands .places) .1 i (omega arith) .low)
 
   -- ---- the plan
-  mode-kept : modeOf (p .radius) (length (coursesOf p)) ≡ p .mode
-  mode-kept = ap (modeOf (p .radius)) courses-length ∙ mode-given p stands
+  mode-kept : modeOf (p .head .radius) (length (coursesOf p)) ≡ p .head .mode
+  mode-kept = ap (modeOf (p .head .radius)) courses-length ∙ mode-given p stands
 
-  pub plan-kept : planOf (p .serial) (p .radius) (pointsOf p) (coursesOf p) ≡ p
+  pub plan-kept : planOf (p .head .serial) (p .head .radius) (pointsOf p) (coursesOf p) ≡ p
   plan-kept =
       λ t.
-      record { serial = p .serial; mode = mode-kept t; radius = p .radius; count = points-length t; points = points-kept t; courses = courses-kept t }
+      record {
+        head = record { serial = p .head .serial; mode = mode-kept t; radius = p .head .radius; count = points-length t };
+        norths = norths-kept t;
+        easts = easts-kept t;
+        downs = downs-kept t;
+        courses = courses-kept t;
+      }
 
   pub plan-rules : (g : Bool) → isGood (rulesIn (partsOfPlan p g)) ≡ true
   unfolding rulesIn
@@ -137,14 +161,17 @@ module _ (p : Plan) (filled : Filled p) (stands : standsOf p ≡ true) where
       let n : length (pointsOf p) ≤ mostPoints = omega (arith, points-length, count-most) in
       let m : length (coursesOf p) ≤ mostPoints = omega (arith, courses-length, given-most) in
       ap isGood (sym (rules-padded _ _ _ _ (pointsOf p) (coursesOf p) n m))
-      ∙ (λ t. isGood (rulesOn (mode-kept t) (p .radius) (courses-length t) (points-length t) (pointsAt (points-kept t)) (coursesAt (courses-kept t))))
+      ∙ (λ t.
+      isGood
+      (rulesOn (mode-kept t) (p .head .radius) (courses-length t) (points-length t) (placeAt (norths-kept t) (easts-kept t) (downs-kept t))
+      (courseAt (courses-kept t))))
       ∙ stands-tests p stands .rules
 
-  pub plan-carried : (v : ℕ) → carriedSince (p .mode) ≤ v → Carried v p
+  pub plan-carried : (v : ℕ) → carriedSince (p .head .mode) ≤ v → Carried v p
   plan-carried v c =
       record {
-        radius = since-radius (p .mode) (p .radius) v (stands-tests p stands .radius) c;
+        radius = since-radius (p .head .mode) (p .head .radius) v (stands-tests p stands .radius) c;
         points = point-used;
-        courses = λ i l. (since-course (p .mode) (p .count) i v c (omega (arith, courses-length)), course-used i l);
-        fewer = omega (arith, points-length, courses-length, given-le (p .mode) (p .count));
+        courses = λ i l. (since-course (p .head .mode) (p .head .count) i v c (omega (arith, courses-length)), course-used i l);
+        fewer = omega (arith, points-length, courses-length, given-le (p .head .mode) (p .head .count));
       }

@@ -41,7 +41,7 @@ radius-fills (suc n) w h = ap fills (radius-written n w) ∙ h
 
 pub plan-fills : (p : Plan) → fills (planRecords p) ≡ true
 unfolding planRecords
-plan-fills p = radius-fills (p .radius) (pointRecords (pointsOf p) (coursesOf p)) (points-fill (pointsOf p) (coursesOf p))
+plan-fills p = radius-fills (p .head .radius) (pointRecords (pointsOf p) (coursesOf p)) (points-fill (pointsOf p) (coursesOf p))
 
 -- ---- their bytes: 4 for a radius, and for each point 14 and at most 4 more for its course
 points-size : (ps : List Point) (cs : List ℕ) → length (flat (pointRecords ps cs)) ≤ 18 * length ps
@@ -59,7 +59,7 @@ pub plan-size : (p : Plan) → length (flat (planRecords p)) ≤ 4 + 18 * length
 unfolding planRecords
 plan-size p =
     let w = pointRecords (pointsOf p) (coursesOf p) in
-    omega (arith, radius-size (p .radius) w, points-size (pointsOf p) (coursesOf p))
+    omega (arith, radius-size (p .head .radius) w, points-size (pointsOf p) (coursesOf p))
 
 -- ---- what reader r gathers from them in a file of version v
 -- a radius is since 2, a course since 3; both are in range, and so are the points
@@ -73,14 +73,14 @@ abbrev pub CoursesCarried : ℕ → List ℕ → Type 0
 CoursesCarried v cs = (i : ℕ) → i < length cs → (3 ≤ v) × (coursesAt cs i < courses)
 
 pub record Carried (v : ℕ) (p : Plan) : Type 0 where
-  pub radius : RadiusCarried v (p .radius)
+  pub radius : RadiusCarried v (p .head .radius)
   pub points : PointsCarried (pointsOf p)
   pub courses : CoursesCarried v (coursesOf p)
   pub fewer : length (coursesOf p) ≤ length (pointsOf p)
 
 -- the parts of a plan; nothing after the last record asks whether it is a point
 abbrev pub partsOfPlan : Plan → Bool → Parts
-partsOfPlan p g = record { radius = p .radius; points = pointsOf p; courses = coursesOf p; atPoint = g }
+partsOfPlan p g = record { radius = p .head .radius; points = pointsOf p; courses = coursesOf p; atPoint = g }
 
 -- more points and courses behind those before
 abbrev withAll : Parts → List Point → List ℕ → Bool → Parts
@@ -120,6 +120,6 @@ module _ (r v : ℕ) (first : 1 ≤ v) (reads : v ≤ r) where
   pub gather-plan : (p : Plan) (at : ℕ) → Carried v p → (g : Bool) × (gather r v at noParts (planRecords p) ≡ good (partsOfPlan p g))
   unfolding planRecords
   gather-plan p at c =
-      let e = gather-radius (p .radius) (pointRecords (pointsOf p) (coursesOf p)) at (c .radius) in
-      let x = gather-points (pointsOf p) (coursesOf p) (e .0) (withRadius noParts (p .radius)) (c .fewer) (c .points) (c .courses) in
+      let e = gather-radius (p .head .radius) (pointRecords (pointsOf p) (coursesOf p)) at (c .radius) in
+      let x = gather-points (pointsOf p) (coursesOf p) (e .0) (withRadius noParts (p .head .radius)) (c .fewer) (c .points) (c .courses) in
       (x .0, e .1 ∙ x .1)

@@ -6,11 +6,13 @@ use Prim.Native.Nat.{ℕ, _≤_}
 use native.Mathlib.Omega.{arith}
 use lib.ListN.{length, drop}
 use lib.Seq.{take-append-seam}
+use Rattle.refusals.specs.Numbers.{noVersion}
 use Rattle.refusals.specs.Outcome.{good, andThen, isGood}
 use Rattle.refusals.specs.Sweep.{done}
 use Rattle.refusals.proofs.OutcomeLaws.{check-true, then-good}
 use Rattle.refusals.proofs.SweepLaws.{good-is}
 use Rattle.plan.specs.declared.Plan.{Plan}
+use Rattle.plan.specs.Places.{Filled}
 use Rattle.plan.specs.Stands.{standsOf}
 use Rattle.plan.proofs.StandLaws.{stands-tests}
 use Rattle.manager.specs.declared.State.{State}
@@ -23,7 +25,7 @@ use Rattle.writer.specs.File.{planRecords, fileOf}
 use Rattle.wpl.specs.Header.{headerOf}
 use Rattle.wpl.specs.Load.{partsOf, settleOf, finishOf, bodyOf, loadOf}
 use Rattle.wpl.specs.Write.{carriedSince, bufferOf}
-use Rattle.wpl.specs.RoundTrip.{Filled, RoundTrip}
+use Rattle.wpl.specs.RoundTrip.{RoundTrip}
 use Rattle.wpl.proofs.WriteLaws.{between-test, since-first, write-passes, good-passes}
 use Rattle.wpl.proofs.HeaderLaws.{header-version, header-serial, header-good, header-records}
 use Rattle.wpl.proofs.PlanRecordLaws.{plan-fills, plan-size, partsOfPlan, gather-plan}
@@ -31,40 +33,40 @@ use Rattle.wpl.proofs.PlanPartLaws.{points-length, plan-kept, plan-rule
 
 -- ---- the load of it
 module _ (p : Plan) (filled : Filled p) (stands : standsOf p ≡ true) where
-  finish-kept : (g : Bool) → finishOf (p .serial) (partsOfPlan p g) ≡ good (startOf p)
+  finish-kept : (g : Bool) → finishOf (p .head .serial) (partsOfPlan p g) ≡ good (startOf p)
   unfolding finishOf
   finish-kept g =
       then-good _ done _ (good-is _ (plan-rules p filled stands g)) ∙ ap (λ (q : Plan). good (startOf q)) (plan-kept p filled stands)
 
-  module _ (reader version : ℕ) (carried : carriedSince (p .mode) ≤ version) (reads : version ≤ reader) where
+  module _ (reader version : ℕ) (carried : carriedSince (p .head .mode) ≤ version) (reads : version ≤ reader) where
     first : 1 ≤ version
-    first = omega (arith, since-first (p .mode))
+    first = omega (arith, since-first (p .head .mode))
 
     head-passed : headerOf (fileOf version p) ≡ good done
     unfolding fileOf
     head-passed =
         let t = stands-tests p stands in
         let n = points-length p filled stands in
-        header-good version (p .serial) (flat (planRecords p)) first (t .serial) (omega (arith, plan-size p))
+        header-good version (p .head .serial) (flat (planRecords p)) first (t .serial) (omega (arith, plan-size p))
 
     parts-kept : (g : Bool) × (partsOf reader (fileOf version p) ≡ good (partsOfPlan p g))
     unfolding partsOf fileOf
     parts-kept =
         let x = gather-plan reader version first reads p headerLength (plan-carried p filled stands version carried) in
-        let v = header-version version (p .serial) (flat (planRecords p)) in
-        let w = header-records version (p .serial) (planRecords p) (plan-fills p) in
+        let v = header-version version (p .head .serial) (flat (planRecords p)) in
+        let w = header-records version (p .head .serial) (planRecords p) (plan-fills p) in
         (x .0, rw (v, w) (x .1))
 
     body-kept : bodyOf reader (fileOf version p) ≡ good (startOf p)
     unfolding bodyOf settleOf andThen fileOf
     body-kept =
         let x = parts-kept in
-        then-good _ _ _ (x .1) ∙ rw (header-serial version (p .serial) (flat (planRecords p))) (finish-kept (x .0))
+        then-good _ _ _ (x .1) ∙ rw (header-serial version (p .head .serial) (flat (planRecords p))) (finish-kept (x .0))
 
     load-kept : reader ≤ newest → loadOf reader (fileOf version p) ≡ good (startOf p)
     unfolding loadOf
     load-kept n =
-        check-true _ 3 _ (between-test 1 newest reader (omega (arith, first)) n) ∙ then-good _ done _ head-passed ∙ body-kept
+        check-true _ noVersion _ (between-test 1 newest reader (omega (arith, first)) n) ∙ then-good _ done _ head-passed ∙ body-kept
 
 pub round-trip : (s : State) → Filled (s .plan) → RoundTrip s
 unfolding bufferOf isGood

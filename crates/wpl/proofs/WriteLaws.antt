@@ -7,17 +7,20 @@ use lib.Dec.{eqb, leb}
 use lib.ListN.{length}
 use borrow.Author.Tests.{leb-true, le-leb, lt-leb}
 use Rattle.refusals.specs.declared.Refusal.{Refusal}
+use Rattle.refusals.specs.Numbers.{noVersion, tooNew, noState, noRoom}
 use Rattle.refusals.specs.Outcome.{good, refused, check, refusalOf, isGood}
 use Rattle.refusals.proofs.Bools.{both-true, both-second, both-off, both-off-second}
 use Rattle.refusals.proofs.OutcomeLaws.{Proper, proper-good, proper-check, check-true, check-false, check-first, check-rest}
 use Rattle.plan.specs.declared.Mode.{Mode}
 use Rattle.plan.specs.declared.Mode.the-variants.{Lines, Fillets, Dubins}
 use Rattle.plan.specs.Limits.{mostPoints}
+use Rattle.plan.specs.Stands.{Long}
+use Rattle.plan.proofs.StandLaws.{stands-tests, places-mean}
 use Rattle.manager.specs.declared.State.{State}
 use Rattle.manager.specs.State.{validOf}
-use Rattle.manager.proofs.StateLaws.{valid-means}
+use Rattle.manager.proofs.StateLaws.{valid-stands, valid-means}
 use Rattle.records.specs.Kinds.{newest, between}
-use Rattle.writer.specs.File.{fileOf}
+use Rattle.writer.specs.File.{fileOf, Writable}
 use Rattle.wpl.specs.Write.{carriedSince, writeOf}
 use Rattle.wpl.proofs.LoadLaws.{refusal-is}
 
@@ -36,61 +39,61 @@ since-first Dubins = omega arith
 pub record Passes (s : State) (version room : ℕ) : Type 0 where
   pub valid : validOf s ≡ true
   pub newer : version ≤ newest
-  pub carried : carriedSince (s .plan .mode) ≤ version
+  pub carried : carriedSince (s .plan .head .mode) ≤ version
   pub roomy : length (fileOf version (s .plan)) ≤ room
 
 module _ (s : State) (version room : ℕ) where
-  pub not-valid : validOf s ≡ false → writeOf s version room ≡ refused 14 0
+  pub not-valid : validOf s ≡ false → writeOf s version room ≡ refused noState 0
   unfolding writeOf
-  not-valid v = check-false _ 14 _ v
+  not-valid v = check-false _ noState _ v
 
   module _ (v : validOf s ≡ true) where
-    pub version-low : version < 1 → writeOf s version room ≡ refused 3 0
+    pub version-low : version < 1 → writeOf s version room ≡ refused noVersion 0
     unfolding writeOf between
-    version-low h = check-true _ 14 _ v ∙ check-false _ 3 _ (both-off _ _ (lt-leb 1 version h))
+    version-low h = check-true _ noState _ v ∙ check-false _ noVersion _ (both-off _ _ (lt-leb 1 version h))
 
-    pub version-high : newest < version → writeOf s version room ≡ refused 3 0
+    pub version-high : newest < version → writeOf s version room ≡ refused noVersion 0
     unfolding writeOf between
-    version-high h = check-true _ 14 _ v ∙ check-false _ 3 _ (both-off-second _ _ (lt-leb version newest h))
+    version-high h = check-true _ noState _ v ∙ check-false _ noVersion _ (both-off-second _ _ (lt-leb version newest h))
 
     module _ (low : 1 ≤ version) (high : version ≤ newest) where
-      pub not-carried : version < carriedSince (s .plan .mode) → writeOf s version room ≡ refused 7 0
+      pub not-carried : version < carriedSince (s .plan .head .mode) → writeOf s version room ≡ refused tooNew 0
       unfolding writeOf
       not-carried h =
-          check-true _ 14 _ v ∙ check-true _ 3 _ (between-test 1 newest version low high) ∙ check-false _ 7 _ (lt-leb (carriedSince (s .plan .mode)) version h)
+          check-true _ noState _ v ∙ check-true _ noVersion _ (between-test 1 newest version low high) ∙ check-false _ tooNew _ (lt-leb (carriedSince (s .plan .head .mode)) version h)
 
-      last : carriedSince (s .plan .mode) ≤ version
-          → writeOf s version room ≡ check (leb (length (fileOf version (s .plan))) room) 16 (good (fileOf version (s .plan)))
+      last : carriedSince (s .plan .head .mode) ≤ version
+          → writeOf s version room ≡ check (leb (length (fileOf version (s .plan))) room) noRoom (good (fileOf version (s .plan)))
       unfolding writeOf
       last c =
-          check-true _ 14 _ v ∙ check-true _ 3 _ (between-test 1 newest version low high) ∙ check-true _ 7 _ (le-leb (carriedSince (s .plan .mode)) version c)
+          check-true _ noState _ v ∙ check-true _ noVersion _ (between-test 1 newest version low high) ∙ check-true _ tooNew _ (le-leb (carriedSince (s .plan .head .mode)) version c)
 
-      pub no-room : carriedSince (s .plan .mode) ≤ version → room < length (fileOf version (s .plan)) → writeOf s version room ≡ refused 16 0
-      no-room c h = last c ∙ check-false _ 16 _ (lt-leb (length (fileOf version (s .plan))) room h)
+      pub no-room : carriedSince (s .plan .head .mode) ≤ version → room < length (fileOf version (s .plan)) → writeOf s version room ≡ refused noRoom 0
+      no-room c h = last c ∙ check-false _ noRoom _ (lt-leb (length (fileOf version (s .plan))) room h)
 
   pub write-passes : Passes s version room → writeOf s version room ≡ good (fileOf version (s .plan))
   write-passes p =
-      last (p .valid) (omega (arith, since-first (s .plan .mode), p .carried)) (p .newer) (p .carried)
-      ∙ check-true _ 16 _ (le-leb (length (fileOf version (s .plan))) room (p .roomy))
+      last (p .valid) (omega (arith, since-first (s .plan .head .mode), p .carried)) (p .newer) (p .carried)
+      ∙ check-true _ noRoom _ (le-leb (length (fileOf version (s .plan))) room (p .roomy))
 
   -- and back
   pub good-passes : isGood (writeOf s version room) ≡ true → Passes s version room
   unfolding writeOf between
   good-passes g =
-      let a = check-rest _ 14 _ g in
-      let b = check-rest _ 3 _ a in
-      let c = check-rest _ 7 _ b in
+      let a = check-rest _ noState _ g in
+      let b = check-rest _ noVersion _ a in
+      let c = check-rest _ tooNew _ b in
       record {
-        valid = check-first _ 14 _ g;
-        newer = leb-true version newest (both-second (leb 1 version) (leb version newest) (check-first _ 3 _ a));
-        carried = leb-true (carriedSince (s .plan .mode)) version (check-first _ 7 _ b);
-        roomy = leb-true (length (fileOf version (s .plan))) room (check-first _ 16 _ c);
+        valid = check-first _ noState _ g;
+        newer = leb-true version newest (both-second (leb 1 version) (leb version newest) (check-first _ noVersion _ a));
+        carried = leb-true (carriedSince (s .plan .head .mode)) version (check-first _ tooNew _ b);
+        roomy = leb-true (length (fileOf version (s .plan))) room (check-first _ noRoom _ c);
       }
 
   write-proper : Proper (writeOf s version room)
   unfolding writeOf
   write-proper =
-      proper-check _ 14 _ refl (proper-check _ 3 _ refl (proper-check _ 7 _ refl (proper-check _ 16 _ refl (proper-good _))))
+      proper-check _ noState _ refl (proper-check _ noVersion _ refl (proper-check _ tooNew _ refl (proper-check _ noRoom _ refl (proper-good _))))
 
   -- from the number that the code saw
   pub write-refused : (n : ℕ) → refusalOf (writeOf s version room) ≡ record { number = n; place = 0 } → (n ≡ 0 → ⊥) → writeOf s version room ≡ refused n 0
@@ -99,5 +102,11 @@ module _ (s : State) (version room : ℕ) where
   pub none-refused : (n : ℕ) → refusalOf (writeOf s version room) ≡ record { number = n; place = 0 } → n ≡ 0 → Passes s version room
   none-refused n e z = good-passes (write-proper ∙ ap (λ (q : Refusal). eqb (q .number) 0) e ∙ ap (λ (k : ℕ). eqb k 0) z)
 
-pub count-most : (s : State) → validOf s ≡ true → s .plan .count ≤ mostPoints
+pub count-most : (s : State) → validOf s ≡ true → s .plan .head .count ≤ mostPoints
 count-most s v = valid-means s v .stands .most
+
+-- what the writer asks of the plan of a state that 14 does not refuse
+pub writable : (s : State) → Long (s .plan .norths) (s .plan .easts) (s .plan .downs) (s .plan .courses) → validOf s ≡ true → Writable (s .plan)
+writable s l v =
+    let t = stands-tests (s .plan) (valid-stands s v) in
+    record { long = l; most = t .most; aimed = places-mean (s .plan) (t .places) .1 }

@@ -6,15 +6,18 @@ use lib.ListN.{length, drop}
 use Rattle.refusals.specs.Numbers.{noVersion}
 use Rattle.refusals.specs.Outcome.{Outcome, good, refused, check, andThen}
 use Rattle.refusals.specs.Sweep.{Done}
+use Rattle.plan.specs.declared.Head.{Head}
 use Rattle.plan.specs.Places.{pointsAt, coursesAt}
 use Rattle.plan.specs.Rules.{modeOf, rulesOn}
 use Rattle.plan.specs.Loaded.{planOf}
 use Rattle.manager.specs.declared.State.{State}
 use Rattle.manager.specs.State.{emptyState, startOf}
+use Rattle.records.specs.declared.Gathered.{Gathered}
 use Rattle.records.specs.Walk.{Walked, walk}
 use Rattle.records.specs.Kinds.{newest, between, Parts, noParts}
 use Rattle.records.specs.Gather.{headerLength, gather}
 use Rattle.wpl.specs.declared.Loaded.{Loaded}
+use Rattle.wpl.specs.declared.Entered.{Entered}
 use Rattle.wpl.specs.Header.{versionOf, serialOf, headerOf}
 
 -- "a file holds the records met from offset 11 by their own lengths"
@@ -50,3 +53,11 @@ loadOf r f = check (between 1 newest r) noVersion (andThen (headerOf f) (λ (_ :
 unfoldable pub loadedOf : Outcome State → Loaded
 loadedOf (good s) = record { refusal = 0; place = 0; state = s }
 loadedOf (refused number place) = record { refusal = number; place = place; state = emptyState }
+
+-- what the records give beside the numbers
+abbrev pub headFrom : ℕ → Gathered → Head
+headFrom serial g = record { serial = serial; mode = modeOf (g .radius) (g .given); radius = g .radius; count = g .count }
+
+-- what a load into lent numbers answers: the same without the numbers
+abbrev pub enteredOf : Loaded → Entered
+enteredOf x = record { refusal = x .refusal; place = x .place; head = x .state .plan .head; progress = x .state .progress }

@@ -6,8 +6,6 @@ use mathlib.Core.List.{List}
 use Prim.Native.Nat.{ℕ, _≤_}
 use lib.ListN.{length, take}
 use Rattle.refusals.specs.Outcome.{good}
-use Rattle.plan.specs.declared.Plan.{Plan}
-use Rattle.plan.specs.Limits.{mostPoints}
 use Rattle.manager.specs.declared.State.{State}
 use Rattle.manager.specs.State.{startOf, validOf}
 use Rattle.records.specs.Kinds.{newest}
@@ -15,14 +13,9 @@ use Rattle.writer.specs.File.{fileOf}
 use Rattle.wpl.specs.Load.{loadOf}
 use Rattle.wpl.specs.Write.{carriedSince, writeOf, bufferOf}
 
--- points and courses fill their arrays, as those of every state in the code do
-pub record Filled (p : Plan) : Type 0 where
-  pub points : length (p .points) ≡ mostPoints
-  pub courses : length (p .courses) ≡ mostPoints
-
 pub record RoundTrip (s : State) : Type 0 where
   -- which versions can carry a plan: lines 1, fillets 2, Dubins 3 and those after it
-  pub carried : (version room : ℕ) → validOf s ≡ true → carriedSince (s .plan .mode) ≤ version → version ≤ newest → length (fileOf version (s .plan)) ≤ room
+  pub carried : (version room : ℕ) → validOf s ≡ true → carriedSince (s .plan .head .mode) ≤ version → version ≤ newest → length (fileOf version (s .plan)) ≤ room
       → writeOf s version room ≡ good (fileOf version (s .plan))
   -- what was written stands at the front of the buffer
   pub stands : (version room : ℕ) (bytes buffer : List ℕ) → writeOf s version room ≡ good bytes → take (length bytes) (bufferOf (writeOf s version room) buffer) ≡ bytes

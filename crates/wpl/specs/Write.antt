@@ -27,7 +27,7 @@ unfoldable pub writeOf : State → ℕ → ℕ → Outcome (List ℕ)
 writeOf s version room =
     check (validOf s) noState
     (check (between 1 newest version) noVersion
-    (check (leb (carriedSince (s .plan .mode)) version) tooNew
+    (check (leb (carriedSince (s .plan .head .mode)) version) tooNew
     (check (leb (length (fileOf version (s .plan))) room) noRoom (good (fileOf version (s .plan))))))
 
 -- the answer

@@ -1,5 +1,7 @@
 // Plan files: load, write, and the notes of a file (document 01, "The plan file").
+use manager::Progress;
 use manager::State;
+use plan::Head;
 use plan::Mode;
 use plan::Plan;
 use records::AREA;
@@ -8,15 +10,19 @@ use records::MARK;
 use records::SERIAL;
 use records::VERSION;
 ghost use mathlib.Core.Path.{_≡_};
-ghost use Prim.Native.Nat.{_≤_};
-ghost use lib.ListN.{length};
+ghost use Prim.Native.Nat.{_+_, _≤_};
+ghost use lib.ListN.{length, take, drop};
 ghost use Rattle.refusals.specs.Outcome.{good, refused, refusalOf};
+ghost use Rattle.plan.specs.Limits.{mostPoints};
+ghost use Rattle.plan.specs.Places.{seen, planNumbers, numbersOf, Filled};
+ghost use Rattle.plan.specs.Stands.{Long};
 ghost use Rattle.manager.specs.declared.State.{State};
-ghost use Rattle.records.specs.Kinds.{Parts};
+ghost use Rattle.manager.specs.State.{viewed};
+ghost use Rattle.records.specs.Kinds.{Parts, noParts};
 ghost use Rattle.records.specs.Gather.{headerLength, InRange};
-ghost use Rattle.records.specs.Held.{gatheredOf};
+ghost use Rattle.records.specs.Held.{gatheredOf, numbersIn};
 ghost use Rattle.wpl.specs.Header.{markedOf, areaFits, headerOf};
-ghost use Rattle.wpl.specs.Load.{recordsOf, finishOf, loadOf, loadedOf};
+ghost use Rattle.wpl.specs.Load.{recordsOf, finishOf, loadOf, loadedOf, headFrom, enteredOf};
 ghost use Rattle.wpl.specs.Write.{carriedSince, writeOf, writtenOf, bufferOf};
 ghost use Rattle.wpl.specs.RoundTrip.{RoundTrip};
 ghost use Rattle.wpl.specs.Note.{wantedOf, leftOf, noteIn, noteOf, Within, partOf};
@@ -27,11 +33,28 @@ pub const NEWEST: u32 = 3;
 // The most bytes after the header.
 pub const MOST_AREA: usize = 8192;
 
+// Where the blocks of a plan's numbers start.
+const NORTHS: usize = plan::NORTH_BLOCK * plan::POINTS;
+
+const EASTS: usize = plan::EAST_BLOCK * plan::POINTS;
+
+const DOWNS: usize = plan::DOWN_BLOCK * plan::POINTS;
+
+const COURSES: usize = plan::COURSE_BLOCK * plan::POINTS;
+
 // A state, or a refusal with its place and the empty state.
 pub struct Loaded {
     pub refusal: u8,
     pub place: usize,
     pub state: State,
+}
+
+// A load without the numbers, which are lent: the head and the progress of the state.
+pub struct Entered {
+    pub refusal: u8,
+    pub place: usize,
+    pub head: Head,
+    pub progress: Progress,
 }
 
 // The length of the file that was written, or a refusal with its place and length 0.
@@ -94,48 +117,72 @@ fn header(file: &[u8]) -> u8
     refusals::WRONG_AREA
 }
 
-// A refused load.
-fn refuse(refusal: u8, place: usize) -> Loaded
-    ensures { λ r. ⌜ r ≡ loadedOf (refused refusal place) ⌝ }
+// A refused load: the head and the progress of the empty state.
+fn refuse(refusal: u8, place: usize) -> Entered
+    ensures { λ r. ⌜ r ≡ enteredOf (loadedOf (refused refusal place)) ⌝ }
 {
-    Loaded {
+    let head = Head {
+        serial: 0,
+        mode: Mode::Lines,
+        radius: 0,
+        count: 0,
+    };
+    let progress = Progress {
+        index: 0,
+        phase: 0,
+        finished: false,
+    };
+    Entered {
         refusal,
         place,
-        state: manager::empty(),
+        head,
+        progress,
     }
 }
 
-// The plan that the records give, by its rules.
-fn finish(serial: u32, gathered: Gathered) -> Loaded
-    requires { ⌜ ((a : Parts) × (InRange a × (gathered ≡ gatheredOf (good a)))) ⌝ }
-    ensures { λ r. ⌜ ((a : Parts) → gathered ≡ gatheredOf (good a) → r ≡ loadedOf (finishOf serial a)) ⌝ }
+// What the records give beside the numbers.
+fn head_of(serial: u32, gathered: Gathered) -> Head
+    ensures { λ r. ⌜ r ≡ headFrom serial gathered ⌝ }
 {
-    let given = gathered.given;
-    let mode = plan::mode_of(gathered.radius, given);
-    let points = gathered.points;
-    let courses = gathered.courses;
-    let plan = Plan {
+    let mode = plan::mode_of(gathered.radius, gathered.given);
+    Head {
         serial,
         mode,
         radius: gathered.radius,
         count: gathered.count,
-        points,
-        courses,
-    };
-    let found = plan::rules(plan, given);
-    if found.number != 0 {
-        return refuse(found.number, found.place);
-    }
-    Loaded {
-        refusal: 0,
-        place: 0,
-        state: manager::start(plan),
     }
 }
 
-// The state at the start of the plan that a file gives to a reader of a version, or the first refusal.
-pub fn load(file: &[u8], reader: u32) -> Loaded
-    ensures { λ r. ⌜ r ≡ loadedOf (loadOf reader (now (file .entry))) ⌝ }
+// The plan that the records give, by its rules.
+fn finish(serial: u32, gathered: Gathered, numbers: &[i32]) -> Entered
+    requires { ⌜ ((a : Parts) × (InRange a × ((gathered ≡ gatheredOf (good a)) × (now numbers ≡ numbersIn a)))) ⌝ }
+    ensures { λ r. ⌜ ((a : Parts) → gathered ≡ gatheredOf (good a) → now (numbers .entry) ≡ numbersIn a → r ≡ enteredOf (loadedOf (finishOf serial a))) ⌝ }
+{
+    let head = head_of(serial, gathered);
+    let found = plan::rules(
+        head,
+        gathered.given,
+        &numbers[NORTHS..EASTS],
+        &numbers[EASTS..DOWNS],
+        &numbers[DOWNS..COURSES],
+        &numbers[COURSES..plan::NUMBERS],
+    );
+    if found.number != 0 {
+        return refuse(found.number, found.place);
+    }
+    Entered {
+        refusal: 0,
+        place: 0,
+        head,
+        progress: manager::first(),
+    }
+}
+
+// A load into numbers that are zero, which a refused one may leave in any state.
+fn read_into(file: &[u8], reader: u32, numbers: &mut [i32]) -> Entered
+    requires { ⌜ now numbers ≡ numbersIn noParts ⌝ }
+    ensures { λ r. ⌜ r ≡ enteredOf (loadedOf (loadOf reader (now (file .entry)))) ⌝ }
+    ensures { λ _. ⌜ ((s : State) → loadOf reader (now (file .entry)) ≡ good s → now (numbers .exit) ≡ numbersOf (s .plan)) ⌝ }
 {
     if reader < 1 {
         return refuse(refusals::NO_VERSION, 0);
@@ -148,12 +195,72 @@ pub fn load(file: &[u8], reader: u32) -> Loaded
         return refuse(number, 0);
     }
     let version = records::u16_at(file, VERSION);
-    let gathered = records::gather(file, reader, version);
+    let gathered = records::gather(file, reader, version, numbers);
     if gathered.refusal != 0 {
         return refuse(gathered.refusal, gathered.place);
     }
-    let serial = records::u32_at(file, SERIAL);
-    finish(serial, gathered)
+    finish(records::u32_at(file, SERIAL), gathered, numbers)
+}
+
+// The plan that a file gives to a reader of a version, into numbers that are lent: norths, easts, downs and courses, as many of each as a plan
+// has places. Refused, they are zero.
+pub fn load_into(file: &[u8], reader: u32, numbers: &mut [i32]) -> Entered
+    requires { ⌜ length (now numbers) ≡ planNumbers ⌝ }
+    ensures { λ r. ⌜ r ≡ enteredOf (loadedOf (loadOf reader (now (file .entry)))) ⌝ }
+    ensures { λ _. ⌜ now (numbers .exit) ≡ numbersOf (loadedOf (loadOf reader (now (file .entry))) .state .plan) ⌝ }
+{
+    buffers::clear(numbers);
+    let entered = read_into(file, reader, numbers);
+    if entered.refusal != 0 {
+        buffers::clear(numbers);
+    }
+    entered
+}
+
+// As many numbers from a place on as a plan has of one kind.
+fn block_of(numbers: &[i32], from: usize) -> [i32; plan::POINTS]
+    requires { ⌜ from + mostPoints ≤ length (now numbers) ⌝ }
+    ensures { λ r. ⌜ r ≡ take mostPoints (drop from (now (numbers .entry))) ⌝ }
+{
+    let mut block = [0i32; plan::POINTS];
+    let to = from + plan::POINTS;
+    buffers::put_numbers(&numbers[from..to], &mut block);
+    block
+}
+
+// The state at the start of the plan that a file gives to a reader of a version, or the first refusal.
+pub fn load(file: &[u8], reader: u32) -> Loaded
+    ensures { λ r. ⌜ r ≡ loadedOf (loadOf reader (now (file .entry))) ⌝ }
+{
+    let mut numbers = [0i32; plan::NUMBERS];
+    let entered = load_into(file, reader, &mut numbers);
+    let head = entered.head;
+    let norths = block_of(&numbers, NORTHS);
+    let easts = block_of(&numbers, EASTS);
+    let downs = block_of(&numbers, DOWNS);
+    let courses = block_of(&numbers, COURSES);
+    let plan = Plan {
+        head,
+        norths,
+        easts,
+        downs,
+        courses,
+    };
+    let progress = entered.progress;
+    Loaded {
+        refusal: entered.refusal,
+        place: entered.place,
+        state: State { plan, progress },
+    }
+}
+
+// The first refusal of a file for a reader of a version, 0 for none.
+pub fn refusal(file: &[u8], reader: u32) -> u8
+    ensures { λ r. ⌜ r ≡ loadedOf (loadOf reader (now (file .entry))) .refusal ⌝ }
+{
+    let mut numbers = [0i32; plan::NUMBERS];
+    let entered = load_into(file, reader, &mut numbers);
+    entered.refusal
 }
 
 // The least version that can carry a plan of a mode: the first that has the newest kind of its records.
@@ -168,10 +275,20 @@ fn carried_since(mode: Mode) -> u32
 }
 
 // The refusal of a write into so much room, 0 for none.
-fn write_refusal(state: State, version: u32, room: usize) -> u8
-    ensures { λ r. ⌜ refusalOf (writeOf state version room) ≡ record { number = r; place = 0 } ⌝ }
+fn write_refusal<'a>(
+    head: Head,
+    progress: Progress,
+    norths: &'a [i32],
+    easts: &'a [i32],
+    downs: &'a [i32],
+    courses: &'a [i32],
+    version: u32,
+    room: usize,
+) -> u8
+    requires { ⌜ Long (now norths) (now easts) (now downs) (now courses) ⌝ }
+    ensures { λ r. ⌜ refusalOf (writeOf (viewed head progress (now (norths .entry)) (now (easts .entry)) (now (downs .entry)) (now (courses .entry))) version room) ≡ record { number = r; place = 0 } ⌝ }
 {
-    if !manager::valid(state) {
+    if !manager::valid(head, progress, norths, easts, downs, courses) {
         return refusals::NO_STATE;
     }
     if version < 1 {
@@ -180,24 +297,42 @@ fn write_refusal(state: State, version: u32, room: usize) -> u8
     if NEWEST < version {
         return refusals::NO_VERSION;
     }
-    let plan = state.plan;
-    let mode = plan.mode;
+    let mode = head.mode;
     if version < carried_since(mode) {
         return refusals::TOO_NEW;
     }
-    if room < writer::file_length(plan) {
+    if room < writer::file_length(head) {
         return refusals::NO_ROOM;
     }
     0
 }
 
-// The file of a state's plan at a version, into the first bytes of a buffer. Refused, nothing is written.
-pub fn write(state: State, version: u32, file: &mut [u8]) -> Written
-    ensures { λ r. ⌜ r ≡ writtenOf (writeOf state version (length (now (file .entry)))) ⌝ }
-    ensures { λ _. ⌜ now (file .exit) ≡ bufferOf (writeOf state version (length (now (file .entry)))) (now (file .entry)) ⌝ }
-    ensures { λ _. ⌜ RoundTrip state ⌝ }
+// The file of the plan of lent numbers at a version, into the first bytes of a buffer. Refused, nothing is written.
+pub fn write_from<'a>(
+    head: Head,
+    progress: Progress,
+    norths: &'a [i32],
+    easts: &'a [i32],
+    downs: &'a [i32],
+    courses: &'a [i32],
+    version: u32,
+    file: &mut [u8],
+) -> Written
+    requires { ⌜ Filled (seen head (now norths) (now easts) (now downs) (now courses)) ⌝ }
+    ensures { λ r. ⌜ r ≡ writtenOf (writeOf (viewed head progress (now (norths .entry)) (now (easts .entry)) (now (downs .entry)) (now (courses .entry))) version (length (now (file .entry)))) ⌝ }
+    ensures { λ _. ⌜ now (file .exit) ≡ bufferOf (writeOf (viewed head progress (now (norths .entry)) (now (easts .entry)) (now (downs .entry)) (now (courses .entry))) version (length (now (file .entry)))) (now (file .entry)) ⌝ }
+    ensures { λ _. ⌜ RoundTrip (viewed head progress (now (norths .entry)) (now (easts .entry)) (now (downs .entry)) (now (courses .entry))) ⌝ }
 {
-    let number = write_refusal(state, version, file.len());
+    let number = write_refusal(
+        head,
+        progress,
+        norths,
+        easts,
+        downs,
+        courses,
+        version,
+        file.len(),
+    );
     if number != 0 {
         return Written {
             refusal: number,
@@ -205,13 +340,32 @@ pub fn write(state: State, version: u32, file: &mut [u8]) -> Written
             length: 0,
         };
     }
-    let plan = state.plan;
-    writer::put_plan(plan, version as u16, file);
+    writer::put_plan(head, norths, easts, downs, courses, version as u16, file);
     Written {
         refusal: 0,
         place: 0,
-        length: writer::file_length(plan),
+        length: writer::file_length(head),
     }
+}
+
+// The same of a state by value, which lends its numbers.
+pub fn write(state: State, version: u32, file: &mut [u8]) -> Written
+    ensures { λ r. ⌜ r ≡ writtenOf (writeOf state version (length (now (file .entry)))) ⌝ }
+    ensures { λ _. ⌜ now (file .exit) ≡ bufferOf (writeOf state version (length (now (file .entry)))) (now (file .entry)) ⌝ }
+    ensures { λ _. ⌜ RoundTrip state ⌝ }
+{
+    let head = state.plan.head;
+    let progress = state.progress;
+    write_from(
+        head,
+        progress,
+        &state.plan.norths,
+        &state.plan.easts,
+        &state.plan.downs,
+        &state.plan.courses,
+        version,
+        file,
+    )
 }
 
 // Whether a record is the note that is looked for, `left` notes on.
@@ -265,8 +419,7 @@ fn find_note(file: &[u8], number: usize) -> Span
 pub fn note(file: &[u8], number: usize) -> &[u8]
     ensures { λ r. ⌜ now r ≡ noteOf (now (file .entry)) number ⌝ }
 {
-    let loaded = load(file, NEWEST);
-    if loaded.refusal != 0 {
+    if refusal(file, NEWEST) != 0 {
         return &file[..0];
     }
     match find_note(file, number) {

@@ -74,12 +74,12 @@ module _ (aimed : Bool) (p : Point) (χ : ℕ) where
   course-length h = rw (with-course h) (simp length-append (omega (arith, point-record p, value-record 3 χ)))
 
 -- ---- the whole
-pub area-is : (p : Plan) → flat (planRecords p) ≡ radiusBytes (p .radius) ++ placesBytes p
+pub area-is : (p : Plan) → flat (planRecords p) ≡ radiusBytes (p .head .radius) ++ placesBytes p
 unfolding planRecords radiusRecord radiusBytes placesBytes recordBytes flat choose
-area-is p = by-bool (eqb (p .radius) 0) (λ t. rw t) (λ t. rw t)
+area-is p = by-bool (eqb (p .head .radius) 0) (λ t. rw t) (λ t. rw t)
 
 pub file-is : (version size : ℕ) (p : Plan) → size ≡ length (flat (planRecords p))
-    → (headerBytes version (p .serial) size ++ radiusBytes (p .radius)) ++ placesBytes p ≡ fileOf version p
+    → (headerBytes version (p .head .serial) size ++ radiusBytes (p .head .radius)) ++ placesBytes p ≡ fileOf version p
 unfolding fileOf withHeader headerBytes u16Bytes u32Bytes
 file-is version size p e = rw (e, area-is p) refl
 
@@ -87,20 +87,20 @@ pub file-length-is : (version : ℕ) (p : Plan) → length (fileOf version p) �
 unfolding fileOf withHeader u16Bytes u32Bytes
 file-length-is version p = omega arith
 
-pub file-room : (version : ℕ) (p : Plan) → length (fileOf version p) ≡ headerLength + length (radiusBytes (p .radius)) + length (placesBytes p)
+pub file-room : (version : ℕ) (p : Plan) → length (fileOf version p) ≡ headerLength + length (radiusBytes (p .head .radius)) + length (placesBytes p)
 file-room version p = omega (arith, file-length-is version p, simp length-append at (ap length (area-is p)))
 
 -- header, radius and places were written, one behind the other
 pub all-written : (version : ℕ) (p : Plan) (old : List ℕ) {size at : ℕ} {x y z : List ℕ} → size ≡ length (flat (planRecords p))
-    → x ≡ over (headerBytes version (p .serial) size) old
-    → (y ≡ splice headerLength (radiusBytes (p .radius)) x) × (at ≡ headerLength + length (radiusBytes (p .radius)))
+    → x ≡ over (headerBytes version (p .head .serial) size) old
+    → (y ≡ splice headerLength (radiusBytes (p .head .radius)) x) × (at ≡ headerLength + length (radiusBytes (p .head .radius)))
     → z ≡ splice at (placesBytes p) y
     → z ≡ over (fileOf version p) old
 all-written version p old {size} {at} {x} {y} {z} n e f g =
-    let h = headerBytes version (p .serial) size in
-    let r = radiusBytes (p .radius) in
-    let b : y ≡ over (h ++ r) old = f .0 ∙ ap (splice headerLength r) e ∙ behind headerLength h r old (header-length version (p .serial) size) in
-    let l : length (h ++ r) ≡ at = simp length-append (omega (arith, f .1, header-length version (p .serial) size)) in
+    let h = headerBytes version (p .head .serial) size in
+    let r = radiusBytes (p .head .radius) in
+    let b : y ≡ over (h ++ r) old = f .0 ∙ ap (splice headerLength r) e ∙ behind headerLength h r old (header-length version (p .head .serial) size) in
+    let l : length (h ++ r) ≡ at = simp length-append (omega (arith, f .1, header-length version (p .head .serial) size)) in
     g
     ∙ ap (splice at (placesBytes p)) b
     ∙ behind at (h ++ r) (placesBytes p) old l

@@ -1,45 +1,42 @@
 -- The points and courses of a plan, place by place: what is left to write from a place on. Assumes nothing.
-use mathlib.Core.Path.{_≡_, refl, sym, ap, _∙_}
-use mathlib.Core.Bool.{true, false}
-use mathlib.Core.List.{List, [], _∷_, _++_, map, append-assoc}
-use Prim.Native.Nat.{ℕ, suc, _+_, _*_, _≤_, _<_}
-use native.Mathlib.Numerals.{add-one}
+use mathlib.Core.Path.{_≡_, refl, sym, ap, _∙_, subst}
+use mathlib.Core.Bool.{Bool, true, false}
+use mathlib.Core.List.{List, [], _∷_, _++_, append-assoc}
+use Prim.Native.Nat.{ℕ, zero, suc, _+_, _-_, _*_, _≤_, _<_}
 use native.Mathlib.Omega.{arith}
 use lib.Dec.{ltb}
-use lib.ListN.{length, take, drop, getD, length-append, length-take, length-map, drop-of-length-le}
-use lib.Seq.{length-take-le, drop-cons, getD-take}
+use lib.ListN.{length, length-append}
 use borrow.Author.Tests.{ltb-true, ltb-false}
 use Rattle.integers.specs.Choose.{choose}
 use Rattle.refusals.proofs.Bools.{by-bool}
 use Rattle.plane.specs.declared.Point.{Point}
-use Rattle.plan.specs.declared.Mode.{Mode}
-use Rattle.plan.specs.declared.Mode.the-variants.{Lines, Fillets, Dubins}
 use Rattle.plan.specs.declared.Plan.{Plan}
-use Rattle.plan.specs.Limits.{mostPoints}
-use Rattle.plan.specs.Places.{noPoint, pointOf, courseOf}
-use Rattle.plan.specs.Stands.{givenOf}
+use Rattle.plan.specs.Places.{pointOf, courseOf}
+use Rattle.plan.specs.Stands.{givenOf, There, Aiming}
+use Rattle.plan.proofs.StandLaws.{aiming-of}
 use Rattle.plan.proofs.LoadedLaws.{given-le}
 use Rattle.records.specs.Walk.{flat}
 use Rattle.records.proofs.WrittenLaws.{point-length, u16-length}
 use Rattle.buffers.specs.Splice.{splice}
-use Rattle.writer.specs.File.{pointRecords, pointsOf, coursesOf, planRecords}
+use Rattle.writer.specs.File.{listed, pointRecords, pointsOf, coursesOf, planRecords, Writable}
 use Rattle.writer.specs.Pieces.{recordBytes, radiusBytes, placeBytes, placesBytes}
 use Rattle.buffers.proofs.SpliceLaws.{further, unchanged}
 use Rattle.writer.proofs.PieceLaws.{area-is}
 
--- ---- the first n of a list, from i on
-module _ {A : Type 0} (n i : ℕ) (d : A) (xs : List A) where
-  opened : i < n → n ≤ length xs → drop i (take n xs) ≡ getD xs i d ∷ drop (i + 1) (take n xs)
-  opened h l =
-      rw add-one
-      (drop-cons (take n xs) i d (rw (length-take-le n xs l) h) ∙ ap (λ (x : A). x ∷ drop (suc i) (take n xs)) (getD-take n xs i d h))
+-- ---- f at the first n places, from i on
+pub listed-length : {A : Type 0} (f : ℕ → A) (k i : ℕ) → length (listed f k i) ≡ k
+unfolding listed
+listed-length f zero i = refl
+listed-length f (suc k) i = ap suc (listed-length f k (i + 1))
 
-  ended : n ≤ i → drop i (take n xs) ≡ []
-  ended h = drop-of-length-le (take n xs) {i = i} (simp length-take (omega arith))
+module _ {A : Type 0} (f : ℕ → A) (n i : ℕ) where
+  opened : i < n → listed f (n - i) i ≡ f i ∷ listed f (n - (i + 1)) (i + 1)
+  unfolding listed
+  opened h = let e : n - i ≡ suc (n - (i + 1)) = omega arith in rw e
 
--- an array's length, told of its elements as the machine has them
-pub unmapped : (A B : Type 0) (f : A → B) (xs : List A) (n : ℕ) → length (map f xs) ≡ n → length xs ≡ n
-unmapped A B f xs n e = sym (length-map xs f) ∙ e
+  ended : n ≤ i → listed f (n - i) i ≡ []
+  unfolding listed
+  ended h = let e : n - i ≡ 0 = omega arith in rw e
 
 -- ---- records of points and courses
 records-length : (ps : List Point) (χs : List ℕ) → length χs ≤ length ps → length (flat (pointRecords ps χs)) ≡ 14 * length ps + 4 * length χs
@@ -59,13 +56,13 @@ module _ (p : Point) (χ : ℕ) (ps : List Point) where
   one-bare = simp append-assoc
 
 -- the point at place i, where the first n places have a course
-one-place : (i n : ℕ) (p : Point) (ps : List Point) (χs : List ℕ) → n ≤ length χs
-    → flat (pointRecords (p ∷ ps) (drop i (take n χs))) ≡ placeBytes (ltb i n) p (getD χs i 0) ++ flat (pointRecords ps (drop (i + 1) (take n χs)))
-one-place i n p ps χs h =
-    by-bool (ltb i n) (λ t. rw (t, opened n i 0 χs (ltb-true i n t) h) (one-aimed p (getD χs i 0) ps (drop (i + 1) (take n χs))))
+one-place : (i n : ℕ) (p : Point) (ps : List Point) (f : ℕ → ℕ)
+    → flat (pointRecords (p ∷ ps) (listed f (n - i) i)) ≡ placeBytes (ltb i n) p (f i) ++ flat (pointRecords ps (listed f (n - (i + 1)) (i + 1)))
+one-place i n p ps f =
+    by-bool (ltb i n) (λ t. rw (t, opened f n i (ltb-true i n t)) (one-aimed p (f i) ps (listed f (n - (i + 1)) (i + 1))))
     (λ t.
     let l = ltb-false i n t in
-    rw (t, ended n i 0 χs l, ended n (i + 1) 0 χs (omega arith)) (one-bare p (getD χs i 0) ps))
+    rw (t, ended f n i l, ended f n (i + 1) (omega arith)) (one-bare p (f i) ps))
 
 -- place i of a plan whose first places have a course
 abbrev placeOf : Plan → ℕ → ℕ → List ℕ
@@ -73,11 +70,14 @@ placeOf p given i = placeBytes (ltb i given) (pointOf p i) (courseOf p i)
 
 -- what is left from place i on
 unfoldable pub restOf : Plan → ℕ → List ℕ
-restOf p i = flat (pointRecords (drop i (pointsOf p)) (drop i (coursesOf p)))
+restOf p i = flat (pointRecords (listed (pointOf p) (p .head .count - i) i) (listed (courseOf p) (givenOf (p .head .mode) (p .head .count) - i) i))
 
 rest-all : (p : Plan) → restOf p 0 ≡ placesBytes p
 unfolding restOf placesBytes
-rest-all p = refl
+rest-all p =
+    let a : p .head .count - 0 ≡ p .head .count = omega arith in
+    let b : givenOf (p .head .mode) (p .head .count) - 0 ≡ givenOf (p .head .mode) (p .head .count) = omega arith in
+    rw (a, b)
 
 -- before place i: what is left, written from offset `at` on, gives what the whole gives
 pub record Underway (p : Plan) (from : ℕ) (old : List ℕ) (at i : ℕ) (now : List ℕ) : Type 0 where
@@ -88,36 +88,35 @@ pub record Underway (p : Plan) (from : ℕ) (old : List ℕ) (at i : ℕ) (now :
 pub starts : (p : Plan) (from : ℕ) (old : List ℕ) → from + length (placesBytes p) ≤ length old → Underway p from old from 0 old
 starts p from old h = record { kept = refl; room = rw (rest-all p) h; same = rw (rest-all p) }
 
--- ---- a plan whose arrays have all their places
-module _ (p : Plan) (most : p .count ≤ mostPoints) (points : length (p .points) ≡ mostPoints) (courses : length (p .courses) ≡ mostPoints) where
-  pub places-length : length (placesBytes p) ≡ 14 * p .count + 4 * givenOf (p .mode) (p .count)
+-- ---- a plan
+module _ (p : Plan) where
+  pub places-length : length (placesBytes p) ≡ 14 * p .head .count + 4 * givenOf (p .head .mode) (p .head .count)
   unfolding placesBytes
   places-length =
-      let g = given-le (p .mode) (p .count) in
-      let a : length (pointsOf p) ≡ p .count = length-take-le (p .count) (p .points) (omega arith) in
-      let b : length (coursesOf p) ≡ givenOf (p .mode) (p .count) = length-take-le (givenOf (p .mode) (p .count)) (p .courses) (omega arith) in
+      let g = given-le (p .head .mode) (p .head .count) in
+      let a : length (pointsOf p) ≡ p .head .count = listed-length (pointOf p) (p .head .count) 0 in
+      let b : length (coursesOf p) ≡ givenOf (p .head .mode) (p .head .count) = listed-length (courseOf p) (givenOf (p .head .mode) (p .head .count)) 0 in
       records-length (pointsOf p) (coursesOf p) (omega arith) ∙ rw (a, b)
 
-  pub area-length-is : length (flat (planRecords p)) ≡ length (radiusBytes (p .radius)) + 14 * p .count + 4 * givenOf (p .mode) (p .count)
+  pub area-length-is : length (flat (planRecords p)) ≡ length (radiusBytes (p .head .radius)) + 14 * p .head .count + 4 * givenOf (p .head .mode) (p .head .count)
   area-length-is = rw (area-is p) (simp length-append (omega (arith, places-length)))
 
-  rest-next : (i : ℕ) → i < p .count
-      → restOf p i ≡ placeOf p (givenOf (p .mode) (p .count)) i ++ restOf p (i + 1)
+  rest-next : (i : ℕ) → i < p .head .count
+      → restOf p i ≡ placeOf p (givenOf (p .head .mode) (p .head .count)) i ++ restOf p (i + 1)
   unfolding restOf
   rest-next i h =
-      rw (opened (p .count) i noPoint (p .points) h (omega arith))
-      (one-place i (givenOf (p .mode) (p .count)) (pointOf p i) (drop (i + 1) (pointsOf p)) (p .courses)
-      (omega (arith, given-le (p .mode) (p .count))))
+      rw (opened (pointOf p) (p .head .count) i h)
+      (one-place i (givenOf (p .head .mode) (p .head .count)) (pointOf p i) (listed (pointOf p) (p .head .count - (i + 1)) (i + 1)) (courseOf p))
 
-  rest-end : (i : ℕ) → p .count ≤ i → restOf p i ≡ []
+  rest-end : (i : ℕ) → p .head .count ≤ i → restOf p i ≡ []
   unfolding restOf pointRecords flat
-  rest-end i h = rw (ended (p .count) i noPoint (p .points) h)
+  rest-end i h = rw (ended (pointOf p) (p .head .count) i h)
 
   module _ (from : ℕ) (old : List ℕ) (at i : ℕ) (now : List ℕ) (u : Underway p from old at i now) where
-    pub ends : p .count ≤ i → now ≡ splice from (placesBytes p) old
+    pub ends : p .head .count ≤ i → now ≡ splice from (placesBytes p) old
     ends h = sym (unchanged at now) ∙ ap (λ (l : List ℕ). splice at l now) (sym (rest-end i h)) ∙ u .same
 
-    module _ (within : i < p .count) (given : ℕ) (is : given ≡ givenOf (p .mode) (p .count)) where
+    module _ (within : i < p .head .count) (given : ℕ) (is : given ≡ givenOf (p .head .mode) (p .head .count)) where
       next : restOf p i ≡ placeOf p given i ++ restOf p (i + 1)
       next = rw is (rest-next i within)
 
@@ -137,3 +136,13 @@ module _ (p : Plan) (most : p .count ≤ mostPoints) (points : length (p .points
                 ∙ ap (λ (l : List ℕ). splice at l now) (sym next)
                 ∙ u .same);
           }
+
+-- ---- what is read at a place, and what was
+pub reads-at : (p : Plan) → Writable p → (i : ℕ) → i < p .head .count → There (p .norths) (p .easts) (p .downs) i × Aiming (p .courses) i
+reads-at p w i h =
+    let m = w .most in
+    let l = w .long in
+    (record { north = omega (arith, l .north); east = omega (arith, l .east); down = omega (arith, l .down) }, aiming-of p l (w .aimed) i (omega arith))
+
+pub same-room : (aimed : Bool) (at : ℕ) {p q : Point} {χ ψ n : ℕ} → p ≡ q → χ ≡ ψ → at + length (placeBytes aimed q ψ) ≤ n → at + length (placeBytes aimed p χ) ≤ n
+same-room aimed at {n = n} e f h = subst (λ (k : ℕ). k ≤ n) (λ t. at + length (placeBytes aimed (sym e t) (sym f t))) h

@@ -1,13 +1,15 @@
 -- Document 01: "The writer writes no optional records: header, radius if any, then each point followed by its course if it has one." Assumes
 -- nothing.
 use mathlib.Core.List.{List, [], _∷_, _++_}
-use Prim.Native.Nat.{ℕ}
+use Prim.Native.Nat.{ℕ, zero, suc, _+_, _≤_}
 use lib.Dec.{eqb}
-use lib.ListN.{length, take}
+use lib.ListN.{length}
 use Rattle.integers.specs.Choose.{choose}
 use Rattle.plane.specs.declared.Point.{Point}
 use Rattle.plan.specs.declared.Plan.{Plan}
-use Rattle.plan.specs.Stands.{givenOf}
+use Rattle.plan.specs.Limits.{mostPoints}
+use Rattle.plan.specs.Places.{pointOf, courseOf}
+use Rattle.plan.specs.Stands.{givenOf, Aimed, Long}
 use Rattle.records.specs.Numbers.{u16Bytes, u32Bytes}
 use Rattle.records.specs.Walk.{Walked, end, more, flat}
 use Rattle.records.specs.Kinds.{pointRow, radiusRow, courseRow, pointBytes}
@@ -27,16 +29,27 @@ pointRecords (p ∷ ps) (c ∷ cs) = more (pointRow .kind) (pointBytes p) (more 
 unfoldable pub radiusRecord : ℕ → Walked → Walked
 radiusRecord R rest = choose (eqb R 0) rest (more (radiusRow .kind) (u16Bytes R) rest)
 
+-- f at k places from i on
+unfoldable pub listed : {A : Type 0} → (ℕ → A) → ℕ → ℕ → List A
+listed f zero i = []
+listed f (suc k) i = f i ∷ listed f k (i + 1)
+
 -- the points of a plan, and its courses, which the first points have
 abbrev pub pointsOf : Plan → List Point
-pointsOf p = take (p .count) (p .points)
+pointsOf p = listed (pointOf p) (p .head .count) 0
 
 abbrev pub coursesOf : Plan → List ℕ
-coursesOf p = take (givenOf (p .mode) (p .count)) (p .courses)
+coursesOf p = listed (courseOf p) (givenOf (p .head .mode) (p .head .count)) 0
 
 unfoldable pub planRecords : Plan → Walked
-planRecords p = radiusRecord (p .radius) (pointRecords (pointsOf p) (coursesOf p))
+planRecords p = radiusRecord (p .head .radius) (pointRecords (pointsOf p) (coursesOf p))
 
 -- the file of a plan at a version
 unfoldable pub fileOf : ℕ → Plan → List ℕ
-fileOf version p = withHeader version (p .serial) (flat (planRecords p))
+fileOf version p = withHeader version (p .head .serial) (flat (planRecords p))
+
+-- ---- what the writer asks of a plan: its numbers are there, and its courses are courses
+pub record Writable (p : Plan) : Type 0 where
+  pub long : Long (p .norths) (p .easts) (p .downs) (p .courses)
+  pub most : p .head .count ≤ mostPoints
+  pub aimed : Aimed p

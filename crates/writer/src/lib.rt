@@ -1,5 +1,5 @@
 // The bytes of a plan file (document 01, "The plan file"): header, radius if any, then each point followed by its course if it has one.
-use plan::Plan;
+use plan::Head;
 use plane::Point;
 use records::AREA;
 use records::COURSE;
@@ -11,16 +11,19 @@ use records::RADIUS;
 use records::SERIAL;
 use records::VERSION;
 ghost use mathlib.Core.Path.{_≡_};
-ghost use mathlib.Core.List.{[], _∷_};
+ghost use mathlib.Core.List.{List, [], _∷_};
 ghost use Prim.Native.Nat.{ℕ, _+_, _≤_, _<_};
+ghost use lib.IntN.{ℤ};
 ghost use lib.ListN.{length};
 ghost use Rattle.plan.specs.Limits.{mostPoints};
+ghost use Rattle.plan.specs.Places.{placeAt, courseAt, seen};
+ghost use Rattle.plan.specs.Stands.{There, Aiming};
 ghost use Rattle.records.specs.Numbers.{u16Bytes, u32Bytes};
 ghost use Rattle.records.specs.Gather.{headerLength};
 ghost use Rattle.records.specs.Walk.{flat};
 ghost use Rattle.records.specs.Kinds.{pointBytes};
 ghost use Rattle.buffers.specs.Splice.{over, splice};
-ghost use Rattle.writer.specs.File.{planRecords, fileOf};
+ghost use Rattle.writer.specs.File.{planRecords, fileOf, Writable};
 ghost use Rattle.writer.specs.Pieces.{mark, headerBytes, recordBytes, radiusBytes, placeBytes, placesBytes};
 
 // The lengths of the bodies, and of the records with them. A radius and a course are each a value of two bytes.
@@ -152,20 +155,45 @@ fn put_place(point: Point, aimed: bool, course: u16, at: usize, file: &mut [u8])
     next
 }
 
-// All points of a plan, each followed by its course if it has one.
-fn put_places(plan: Plan, from: usize, file: &mut [u8])
-    requires { ⌜ (plan .count ≤ mostPoints) × (from + length (placesBytes plan) ≤ length (now file)) ⌝ }
-    ensures { λ _. ⌜ now (file .exit) ≡ splice from (placesBytes plan) (now (file .entry)) ⌝ }
+// The point at place i, and its course if it has one. The answer is the offset behind them.
+fn put_place_at<'a>(
+    norths: &'a [i32],
+    easts: &'a [i32],
+    downs: &'a [i32],
+    courses: &'a [i32],
+    i: usize,
+    aimed: bool,
+    at: usize,
+    file: &mut [u8],
+) -> usize
+    requires { ⌜ (There (now norths) (now easts) (now downs) i × Aiming (now courses) i) × (at + length (placeBytes aimed (placeAt (now norths) (now easts) (now downs) i) (courseAt (now courses) i)) ≤ length (now file)) ⌝ }
+    ensures { λ _. ⌜ now (file .exit) ≡ splice at (placeBytes aimed (placeAt (now (norths .entry)) (now (easts .entry)) (now (downs .entry)) i) (courseAt (now (courses .entry)) i)) (now (file .entry)) ⌝ }
+    ensures { λ r. ⌜ r ≡ at + length (placeBytes aimed (placeAt (now (norths .entry)) (now (easts .entry)) (now (downs .entry)) i) (courseAt (now (courses .entry)) i)) ⌝ }
 {
-    let mode = plan.mode;
-    let count = plan.count;
-    let given = plan::given_of(mode, count);
+    let point = plan::point_at(norths, easts, downs, i);
+    let course = plan::course_at(courses, i);
+    put_place(point, aimed, course as u16, at, file)
+}
+
+// All points of a plan, each followed by its course if it has one.
+fn put_places<'a>(
+    head: Head,
+    norths: &'a [i32],
+    easts: &'a [i32],
+    downs: &'a [i32],
+    courses: &'a [i32],
+    from: usize,
+    file: &mut [u8],
+)
+    requires { ⌜ Writable (seen head (now norths) (now easts) (now downs) (now courses)) × (from + length (placesBytes (seen head (now norths) (now easts) (now downs) (now courses))) ≤ length (now file)) ⌝ }
+    ensures { λ _. ⌜ now (file .exit) ≡ splice from (placesBytes (seen head (now (norths .entry)) (now (easts .entry)) (now (downs .entry)) (now (courses .entry)))) (now (file .entry)) ⌝ }
+{
+    let mode = head.mode;
+    let given = plan::given_of(mode, head.count);
     let mut at = from;
     let mut i: usize = 0;
-    while i < count {
-        let point = plan.points[i];
-        let course = plan.courses[i];
-        at = put_place(point, i < given, course, at, file);
+    while i < head.count {
+        at = put_place_at(norths, easts, downs, courses, i, i < given, at, file);
         i += 1;
     }
 }
@@ -181,29 +209,37 @@ fn radius_length(radius: u16) -> usize
 }
 
 // How many bytes the records of a plan take. They fit the header's two bytes.
-fn area_length(plan: Plan) -> usize
-    requires { ⌜ plan .count ≤ mostPoints ⌝ }
-    ensures { λ r. ⌜ (r ≡ length (flat (planRecords plan))) × (r < 65536) ⌝ }
+fn area_length(head: Head) -> usize
+    requires { ⌜ head .count ≤ mostPoints ⌝ }
+    ensures { λ r. ⌜ ((ns es ds cs : List ℤ) → r ≡ length (flat (planRecords (seen head ns es ds cs)))) × (r < 65536) ⌝ }
 {
-    let mode = plan.mode;
-    let count = plan.count;
-    radius_length(plan.radius) + POINT_RECORD * count + COURSE_RECORD * plan::given_of(mode, count)
+    let mode = head.mode;
+    let count = head.count;
+    radius_length(head.radius) + POINT_RECORD * count + COURSE_RECORD * plan::given_of(mode, count)
 }
 
-// How many bytes the file of a plan has, at any version.
-pub fn file_length(plan: Plan) -> usize
-    requires { ⌜ plan .count ≤ mostPoints ⌝ }
-    ensures { λ r. ⌜ ((version : ℕ) → r ≡ length (fileOf version plan)) ⌝ }
+// How many bytes the file of a plan has, at any version and wherever its points lie.
+pub fn file_length(head: Head) -> usize
+    requires { ⌜ head .count ≤ mostPoints ⌝ }
+    ensures { λ r. ⌜ ((version : ℕ) (ns es ds cs : List ℤ) → r ≡ length (fileOf version (seen head ns es ds cs))) ⌝ }
 {
-    HEADER + area_length(plan)
+    HEADER + area_length(head)
 }
 
 // The file of a plan at a version, into the first bytes of a buffer. Nothing else of it changes.
-pub fn put_plan(plan: Plan, version: u16, file: &mut [u8])
-    requires { ⌜ (plan .count ≤ mostPoints) × (length (fileOf version plan) ≤ length (now file)) ⌝ }
-    ensures { λ _. ⌜ now (file .exit) ≡ over (fileOf version plan) (now (file .entry)) ⌝ }
+pub fn put_plan<'a>(
+    head: Head,
+    norths: &'a [i32],
+    easts: &'a [i32],
+    downs: &'a [i32],
+    courses: &'a [i32],
+    version: u16,
+    file: &mut [u8],
+)
+    requires { ⌜ Writable (seen head (now norths) (now easts) (now downs) (now courses)) × (length (fileOf version (seen head (now norths) (now easts) (now downs) (now courses))) ≤ length (now file)) ⌝ }
+    ensures { λ _. ⌜ now (file .exit) ≡ over (fileOf version (seen head (now (norths .entry)) (now (easts .entry)) (now (downs .entry)) (now (courses .entry)))) (now (file .entry)) ⌝ }
 {
-    put_header(version, plan.serial, area_length(plan) as u16, file);
-    let at = put_radius(plan.radius, file);
-    put_places(plan, at, file);
+    put_header(version, head.serial, area_length(head) as u16, file);
+    let at = put_radius(head.radius, file);
+    put_places(head, norths, easts, downs, courses, at, file);
 }

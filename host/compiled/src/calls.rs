@@ -2,17 +2,20 @@
 
 mod c {
     extern "C" {
+        pub fn farnkuppel_interface() -> u32;
+        /// The desk's farnkuppel_interface, as build.rs calls it.
+        pub fn farnkuppel_desk_interface() -> u32;
         pub fn farnkuppel_load(
             file: *const u8,
             file_length: usize,
             reader: u32,
-            state: *mut u32,
+            state: *mut i32,
             state_length: usize,
             answer: *mut u32,
             answer_length: usize,
         ) -> u32;
         pub fn farnkuppel_fix(
-            state: *mut u32,
+            state: *mut i32,
             state_length: usize,
             serial: u32,
             north: f32,
@@ -24,7 +27,7 @@ mod c {
             command_length: usize,
         ) -> u32;
         pub fn farnkuppel_write(
-            state: *const u32,
+            state: *const i32,
             state_length: usize,
             version: u32,
             file: *mut u8,
@@ -45,15 +48,23 @@ mod c {
     }
 }
 
+/// The interface that these functions are those of.
+pub const INTERFACE: u32 = 2;
 pub const LOAD_WORDS: usize = 2;
 pub const WRITE_WORDS: usize = 3;
 pub const NOTE_WORDS: usize = 1;
 pub const NOTE_BYTES: usize = 32;
 pub const ANSWER_WORDS: usize = 8;
 pub const COMMAND_NUMBERS: usize = 6;
-pub const TOO_SHORT: u32 = 100;
+pub const MISFIT: u32 = 100;
 
-pub fn load(file: &[u8], reader: u32, state: &mut [u32], answer: &mut [u32]) -> u32 {
+/// The interfaces that the autopilot's archive and the desk's have.
+pub fn interfaces() -> [u32; 2] {
+    // SAFETY: they take nothing.
+    unsafe { [c::farnkuppel_interface(), c::farnkuppel_desk_interface()] }
+}
+
+pub fn load(file: &[u8], reader: u32, state: &mut [i32], answer: &mut [u32]) -> u32 {
     // SAFETY: every pointer comes with the length of its slice, and the slices are apart.
     unsafe {
         c::farnkuppel_load(
@@ -68,7 +79,7 @@ pub fn load(file: &[u8], reader: u32, state: &mut [u32], answer: &mut [u32]) -> 
     }
 }
 
-pub fn fix(state: &mut [u32], serial: u32, fix: [f32; 3], answer: &mut [u32], command: &mut [f32]) -> u32 {
+pub fn fix(state: &mut [i32], serial: u32, fix: [f32; 3], answer: &mut [u32], command: &mut [f32]) -> u32 {
     // SAFETY: every pointer comes with the length of its slice, and the slices are apart.
     unsafe {
         c::farnkuppel_fix(
@@ -86,7 +97,7 @@ pub fn fix(state: &mut [u32], serial: u32, fix: [f32; 3], answer: &mut [u32], co
     }
 }
 
-pub fn write(state: &[u32], version: u32, file: &mut [u8], answer: &mut [u32]) -> u32 {
+pub fn write(state: &[i32], version: u32, file: &mut [u8], answer: &mut [u32]) -> u32 {
     // SAFETY: every pointer comes with the length of its slice, and the slices are apart.
     unsafe {
         c::farnkuppel_write(

@@ -1,12 +1,13 @@
 //! Each call made twice, by the reference and by the compiled manager, and every word compared.
 
 use crate::notes::Notes;
-use compiled::calls::{self, ANSWER_WORDS, COMMAND_NUMBERS, LOAD_WORDS, TOO_SHORT, WRITE_WORDS};
-use compiled::words::{self, hex_of_bytes, hex_of_words, Words, STATE_WORDS};
+use compiled::calls::{self, ANSWER_WORDS, COMMAND_NUMBERS, LOAD_WORDS, MISFIT, WRITE_WORDS};
+use compiled::words::{self, hex_of_bytes, hex_of_words, Words, SERIAL, STATE_WORDS};
 use reference::{load, write, State};
 
 /// What lent memory holds before a call, so that a word too few or too many shows.
 pub const PATTERN: u32 = 0xA5A5_A5A5;
+const STATE_PATTERN: i32 = PATTERN as i32;
 pub const BYTE_PATTERN: u8 = 0x5A;
 /// So much more is lent than needed, and must stay as it was.
 pub const SPARE: usize = 3;
@@ -47,10 +48,10 @@ impl Tally {
     pub fn compare_load(&mut self, case: Case, file: &[u8], reader: u32) {
         let expected = load(file, reader);
         let (number, place) = expected.map_or_else(|r| (r.number, r.place), |_| (0, 0));
-        let mut state_wanted = [PATTERN; STATE_WORDS + SPARE];
+        let mut state_wanted = [STATE_PATTERN; STATE_WORDS + SPARE];
         state_wanted[..STATE_WORDS].copy_from_slice(&words::of_state(&expected.unwrap_or(State::EMPTY)));
         let answer_wanted = [number, place, PATTERN];
-        let mut state = [PATTERN; STATE_WORDS + SPARE];
+        let mut state = [STATE_PATTERN; STATE_WORDS + SPARE];
         let mut answer = [PATTERN; LOAD_WORDS + 1];
         let result = calls::load(file, reader, &mut state, &mut answer);
         let desk = calls::refusal(file, reader);
@@ -81,7 +82,7 @@ impl Tally {
             }
             None => words::of_no_state(&before),
         };
-        let mut lent = [PATTERN; STATE_WORDS + SPARE];
+        let mut lent = [STATE_PATTERN; STATE_WORDS + SPARE];
         lent[..STATE_WORDS].copy_from_slice(&before);
         let mut answer = [PATTERN; ANSWER_WORDS + 1];
         let mut command = [f32::from_bits(PATTERN); COMMAND_NUMBERS + 1];
@@ -92,7 +93,7 @@ impl Tally {
             && answer[..ANSWER_WORDS] == answer_wanted
             && bits[..COMMAND_NUMBERS] == command_wanted.map(f32::to_bits)
             && lent[..STATE_WORDS] == after
-            && lent[STATE_WORDS..] == [PATTERN; SPARE]
+            && lent[STATE_WORDS..] == [STATE_PATTERN; SPARE]
             && (answer[ANSWER_WORDS], bits[COMMAND_NUMBERS]) == (PATTERN, PATTERN);
         if !agrees {
             let differing = first_difference(&lent, &after);
@@ -152,7 +153,7 @@ impl Tally {
 
     /// Every call with one lent slice a word or more too short: refused, and nothing written.
     pub fn compare_short_slices(&mut self, case: Case, state: &Words, file: &[u8], cut: usize) {
-        let mut lent = *state;
+        let (mut lent, serial) = (*state, state[SERIAL] as u32);
         let mut answer = [PATTERN; ANSWER_WORDS];
         let mut command = [f32::from_bits(PATTERN); COMMAND_NUMBERS];
         let mut room = [BYTE_PATTERN; 1200];
@@ -160,9 +161,9 @@ impl Tally {
         let results = [
             calls::load(file, 3, &mut lent[..less(STATE_WORDS)], &mut answer),
             calls::load(file, 3, &mut lent, &mut answer[..less(LOAD_WORDS)]),
-            calls::fix(&mut lent[..less(STATE_WORDS)], state[0], [0.0; 3], &mut answer, &mut command),
-            calls::fix(&mut lent, state[0], [0.0; 3], &mut answer[..less(ANSWER_WORDS)], &mut command),
-            calls::fix(&mut lent, state[0], [0.0; 3], &mut answer, &mut command[..less(COMMAND_NUMBERS)]),
+            calls::fix(&mut lent[..less(STATE_WORDS)], serial, [0.0; 3], &mut answer, &mut command),
+            calls::fix(&mut lent, serial, [0.0; 3], &mut answer[..less(ANSWER_WORDS)], &mut command),
+            calls::fix(&mut lent, serial, [0.0; 3], &mut answer, &mut command[..less(COMMAND_NUMBERS)]),
             calls::write(&lent[..less(STATE_WORDS)], 3, &mut room, &mut answer),
             calls::write(&lent, 3, &mut room, &mut answer[..less(WRITE_WORDS)]),
         ];
@@ -170,7 +171,7 @@ impl Tally {
             && answer == [PATTERN; ANSWER_WORDS]
             && command.map(f32::to_bits) == [PATTERN; COMMAND_NUMBERS]
             && room == [BYTE_PATTERN; 1200];
-        if results != [TOO_SHORT; 7] || !untouched {
+        if results != [MISFIT; 7] || !untouched {
             let (file, held) = (hex_of_bytes(file), hex_of_words(state));
             self.disagree(case, format!("short by {cut} results {results:?} untouched {untouched} file {file} state {held}"));
         }
@@ -178,7 +179,7 @@ impl Tally {
 }
 
 /// The first word that differs, as place, compiled, reference.
-fn first_difference(got: &[u32], wanted: &[u32]) -> String {
+fn first_difference(got: &[i32], wanted: &[i32]) -> String {
     match got.iter().zip(wanted).position(|(g, w)| g != w) {
         Some(at) => format!("word {at} {:08X} for {:08X}", got[at], wanted[at]),
         None => "equal".into(),

@@ -11,6 +11,7 @@ mod positions;
 mod runs;
 
 use compare::Tally;
+use compiled::calls::{interfaces, INTERFACE};
 use std::fmt::{Debug, Display};
 use std::process::ExitCode;
 
@@ -89,6 +90,10 @@ fn report(tally: &Tally) -> bool {
 }
 
 fn main() -> ExitCode {
+    if interfaces() != [INTERFACE; 2] {
+        eprintln!("differ: the archives have the interfaces {:?}, not {INTERFACE}", interfaces());
+        return ExitCode::FAILURE;
+    }
     let arguments: Vec<String> = std::env::args().skip(1).collect();
     let numbers: Vec<u64> = arguments.iter().skip(1).filter_map(|text| text.parse().ok()).collect();
     let mut tally = Tally::default();

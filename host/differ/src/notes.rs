@@ -3,7 +3,7 @@
 use crate::chance::Chance;
 use crate::compare::{Case, Tally, BYTE_PATTERN, PATTERN, SPARE};
 use crate::files::{noted_file, random_file};
-use compiled::calls::{self, NOTE_BYTES, NOTE_WORDS, TOO_SHORT};
+use compiled::calls::{self, MISFIT, NOTE_BYTES, NOTE_WORDS};
 use compiled::words::hex_of_bytes;
 use reference::file::NEWEST;
 use reference::{load, note};
@@ -67,7 +67,7 @@ fn compare(tally: &mut Tally, case: Case, file: &[u8], question: &Question) {
     let Question { number, room, words } = *question;
     let wanted = &file[note(file, number as usize)];
     let fits = room >= NOTE_BYTES && words >= NOTE_WORDS;
-    let result_wanted = if fits { 0 } else { TOO_SHORT };
+    let result_wanted = if fits { 0 } else { MISFIT };
     let mut buffer = vec![BYTE_PATTERN; room + SPARE];
     let mut buffer_wanted = buffer.clone();
     let mut answer = [PATTERN; NOTE_WORDS + 2 * SPARE];

@@ -4,7 +4,8 @@ use crate::chance::Chance;
 use crate::compare::{Case, Tally};
 use crate::files::{loading_file, random_file};
 use crate::positions::random_fix;
-use compiled::words::{self, Words, COUNT, COURSES, FINISHED, INDEX, PHASE, STATE_WORDS};
+use compiled::words::{self, Words, COUNT, COURSES, DOWNS, EASTS, FINISHED, INDEX, NORTHS, PHASE, SERIAL, STATE_WORDS};
+use reference::state::PLACES;
 use reference::{file, State};
 
 const ODD_VERSIONS: [u32; 16] = [
@@ -73,24 +74,33 @@ fn random_name(c: &mut Chance, serial: u32) -> u32 {
 fn break_words(c: &mut Chance, words: &mut Words) {
     for _ in 0..c.between(1, 2) {
         let place = match c.below(4) {
-            0 | 1 => c.below(7),
+            0 | 1 => c.below(NORTHS),
             2 => c.below(STATE_WORDS),
-            _ => c.pick(&[7, 8, 9, 198, 199, 262, 7 + 3 * words[3].min(63) as usize, COURSES + words[3].min(63) as usize]),
+            _ => block_place(c, words[COUNT]),
         };
         words[place] = random_word(c, words[place]);
     }
 }
 
-fn random_word(c: &mut Chance, was: u32) -> u32 {
-    const EDGES: [u32; 24] = [
-        0, 1, 2, 3, 4, 5, 6, 49, 50, 63, 64, 65, 255, 256, 4095, 4096, 10_000, 10_001, 100_000, 100_001, 500_000, 500_001,
-        0x8000_0000, u32::MAX,
+/// The first or the last place of a block, or the first that a plan does not use.
+fn block_place(c: &mut Chance, count: i32) -> usize {
+    let last = PLACES - 1;
+    let unused = (count as u32 as usize).min(last);
+    c.pick(&[NORTHS, EASTS, DOWNS, COURSES]) + c.pick(&[0, last, unused])
+}
+
+fn random_word(c: &mut Chance, was: i32) -> i32 {
+    const EDGES: [i32; 26] = [
+        0, 1, 2, 3, 4, 5, 6, 49, 50, 63, 64, 65, 255, 256, 4095, 4096, 10_000, 10_001, 65_535, 65_536, 100_000, 100_001, 500_000,
+        500_001, i32::MAX, i32::MIN,
     ];
-    match c.below(6) {
+    match c.below(7) {
         0 => was.wrapping_add(1),
         1 => was.wrapping_sub(1),
         2 => was ^ 1 << c.below(32),
         3 => c.pick(&EDGES).wrapping_neg(),
+        // What a narrower number would take for the same.
+        4 => was.wrapping_add(c.pick(&[256, -256, 4096, -4096, 65_536, -65_536])),
         _ => c.pick(&EDGES),
     }
 }
@@ -141,7 +151,7 @@ pub fn states(tally: &mut Tally, n: u64, seed: u64) {
             1 => break_progress(c, &mut held),
             _ => break_words(c, &mut held),
         }
-        let named = random_name(c, held[0]);
+        let named = random_name(c, held[SERIAL] as u32);
         let room = random_room(c, file::file_length(&state));
         tally.compare_write(case, &held, random_version(c), room);
         if c.one_in(16) {
@@ -160,5 +170,5 @@ fn break_progress(c: &mut Chance, words: &mut Words) {
     } else {
         (c.between(0, count + 1), c.between(0, 6), c.between(0, 2))
     };
-    (words[INDEX], words[PHASE], words[FINISHED]) = (index as u32, phase as u32, finished as u32);
+    (words[INDEX], words[PHASE], words[FINISHED]) = (index as i32, phase as i32, finished as i32);
 }

@@ -2,7 +2,7 @@
 //! state. They take turns, so that what else the machine does falls on all of them.
 
 use compiled::calls::{self, ANSWER_WORDS, COMMAND_NUMBERS, LOAD_WORDS};
-use compiled::words::{self, Words, FINISHED, INDEX, PHASE, STATE_WORDS};
+use compiled::words::{self, Words, FINISHED, INDEX, PHASE, SERIAL, STATE_WORDS};
 use reference::{load, State};
 use std::hint::black_box;
 use std::time::Instant;
@@ -37,7 +37,7 @@ fn fix_words(held: &mut Words, serial: u32, fix: [f32; 3]) -> ([u32; ANSWER_WORD
         return words::of_no_state(held);
     };
     let answer = state.fix(serial, fix);
-    (held[INDEX], held[PHASE], held[FINISHED]) = (state.index, state.phase, u32::from(state.finished));
+    (held[INDEX], held[PHASE], held[FINISHED]) = (state.index as i32, state.phase as i32, i32::from(state.finished));
     words::of_answer(&answer)
 }
 
@@ -89,14 +89,14 @@ pub fn loads(file: &[u8], count: u64) -> Times {
             (0..turn).fold(sum, |sum, _| {
                 let (mut state, mut answer) = ([0; STATE_WORDS], [0; LOAD_WORDS]);
                 let number = calls::load(black_box(file), READER, &mut state, &mut answer);
-                sum + u64::from(number) + u64::from(black_box(&state)[0])
+                sum + u64::from(number) + u64::from(black_box(&state)[SERIAL] as u32)
             })
         });
         timed(&mut total[1], &mut sums[1], |sum| {
             (0..turn).fold(sum, |sum, _| {
                 let loaded = load(black_box(file), READER);
                 let state = words::of_state(&loaded.unwrap_or(State::EMPTY));
-                sum + u64::from(loaded.map_or_else(|r| r.number, |_| 0)) + u64::from(black_box(&state)[0])
+                sum + u64::from(loaded.map_or_else(|r| r.number, |_| 0)) + u64::from(black_box(&state)[SERIAL] as u32)
             })
         });
         timed(&mut total[2], &mut sums[2], |sum| {

@@ -1,11 +1,24 @@
--- `farnkuppel_fix` takes the state from its words, steps it, and puts back index, phase and finished. Assumes nothing.
-use mathlib.Core.Path.{sym, _∙_}
-use native.Mathlib.Omega.{arith}
+-- `farnkuppel_fix` decides over the words as they lie, and puts index, phase and finished. Assumes nothing.
+use mathlib.Core.Path.{_≡_, sym, _∙_}
+use mathlib.Core.Bool.{true}
+use Prim.Native.Nat.{_≤_}
+use lib.ListN.{length}
 use borrow.Author.Tests.{not-true, not-false}
 use borrow.Author.Needs.{needs}
-use Rattle.autopilot.proofs.CallLaws.{pair-means, pair-short, command-short, fix-fits, words-hold, hold-nothing, fix-unfit, fix-refused, fix-taken, progress-kept}
+use Rattle.c_state.specs.Stored.{stateLength}
+use Rattle.autopilot.specs.Calls.{pairFits}
+use Rattle.autopilot.proofs.CallLaws.{pair-means}
+use Rattle.autopilot.proofs.FixLaws.{pair-short, command-short, fix-fits, fix-unfit, fix-refused, fix-taken}
 use Rattle.autopilot.proofs.farnkuppel_fix.Statement.{statement}
 use Rattle.autopilot.proofs.farnkuppel_fix.Tie as tie
+
+-- what the tests have shown
+fitting : (c : tie.Else1)
+    → let s = c .before .before .before .before .args in pairFits (length (s .state .now)) (length (s .answer .now)) 8 ≡ true
+fitting c = sym (c .before .fits2 .ensures) ∙ not-false _ (c .if1 .left)
+
+long : (c : tie.Else1) → let s = c .before .before .before .before .args in (stateLength ≤ length (s .state .now)) × (8 ≤ length (s .answer .now))
+long c = pair-means _ _ _ (fitting c)
 
 fits-requires : tie.Need-fits-requires
 fits-requires c κs = search needs
@@ -26,20 +39,13 @@ returns-2 c =
     let l = fix-unfit _ _ _ _ _ _ (command-short _ _ _ (c .if2 .taken)) in
     (l .result, (l .words, (l .answered, l .commanded)))
 
-take-state-requires : tie.Need-take-state-requires
-take-state-requires c κs = let e = c .before .before in pair-means _ _ _ (sym (e .before .fits2 .ensures) ∙ not-false _ (e .if1 .left)) .0
-
-slice-read-refuse : tie.Need-slice-read-refuse
-slice-read-refuse c = let e = c .before .before .before .before .before .before in omega (arith, pair-means _ _ _ (sym (e .before .fits2 .ensures) ∙ not-false _ (e .if1 .left)) .0)
-
-slice-read-refuse-2 : tie.Need-slice-read-refuse-2
-slice-read-refuse-2 c = let e = c .before .before .before .before .before .before .before in omega (arith, pair-means _ _ _ (sym (e .before .fits2 .ensures) ∙ not-false _ (e .if1 .left)) .0)
-
-slice-read-refuse-3 : tie.Need-slice-read-refuse-3
-slice-read-refuse-3 c = let e = c .before .before .before .before .before .before .before .before in omega (arith, pair-means _ _ _ (sym (e .before .fits2 .ensures) ∙ not-false _ (e .if1 .left)) .0)
+holds-state-requires : tie.Need-holds-state-requires
+holds-state-requires c κs = long (c .before .before) .0
 
 refuse-requires : tie.Need-refuse-requires
-refuse-requires c κs = let e = c .before .before .before .before .before .before .before .before .before .before in (pair-means _ _ _ (sym (e .before .fits2 .ensures) ∙ not-false _ (e .if1 .left)) .1, c .before .before .before .before .before .before .before .before .before .if2 .left)
+refuse-requires c κs =
+    let d = c .before .before .before .before .before .before in
+    (long (d .before) .0, (long (d .before) .1, d .if2 .left))
 
 cast-result-3 : tie.Need-cast-result-3
 cast-result-3 c = search needs
@@ -55,30 +61,31 @@ same-length-3 c = search needs
 
 returns-3 : tie.Need-returns-3
 returns-3 c =
-    let r = c .before .before .before .before .before in
-    let k = c .before .before .before .before .before .before .before .before .before .before .before in
-    let t = k .before .before in
-    let d = t .before .before in
+    let r = c .before .before .before .before in
+    let k = r .before .before .before .before in
+    let d = k .before .before .before in
     let e = d .before in
-    let f = fix-fits _ _ _ (sym (e .before .fits2 .ensures) ∙ not-false _ (e .if1 .left)) (d .if2 .left) in
-    let n = hold-nothing _ _ (t .take-state .ensures) (k .if3 .taken) in
-    let l = fix-refused _ _ _ _ _ _ f _ _ _ n (r .refuse .ensures .0) (r .refuse .ensures .1) in
+    let f = fix-fits _ _ _ (fitting e) (d .if2 .left) in
+    let n = sym (k .before .holds-state .ensures) ∙ not-true _ (k .if3 .taken) in
+    let l = fix-refused _ _ _ _ _ _ f _ _ n (r .refuse .ensures .0) (r .refuse .ensures .1) in
     (l .result, (l .words, (l .answered, l .commanded)))
 
-step-requires : tie.Need-step-requires
-step-requires c κs = search needs
-
-cast-number : tie.Need-cast-number
-cast-number c = search needs
+decide-at-requires : tie.Need-decide-at-requires
+decide-at-requires c κs =
+    let k = c .before in
+    (long (k .before .before .before .before) .0, sym (k .before .holds-state .ensures) ∙ not-false _ (k .if3 .left))
 
 put-answer-requires : tie.Need-put-answer-requires
-put-answer-requires c κs = let e = c .before .before .before .before .before .before .before .before .before .before .before in pair-means _ _ _ (sym (e .before .fits2 .ensures) ∙ not-false _ (e .if1 .left)) .1
+put-answer-requires c κs = long (c .before .before .before .before .before .before .before .before .before) .1
 
 put-command-requires : tie.Need-put-command-requires
-put-command-requires c κs = c .before .before .before .before .before .before .before .before .before .before .before .before .before .before .if2 .left
+put-command-requires c κs = search needs
 
 put-progress-requires : tie.Need-put-progress-requires
-put-progress-requires c κs = let e = c .before .before .before .before .before .before .before .before .before .before .before .before .before .before .before .before .before .before .before in pair-means _ _ _ (sym (e .before .fits2 .ensures) ∙ not-false _ (e .if1 .left)) .0
+put-progress-requires c κs = let e = long (c .before .before .before .before .before .before .before .before .before .before .before .before .before .before .before .before .before) .0 in search needs
+
+cast-result-4 : tie.Need-cast-result-4
+cast-result-4 c = search needs
 
 same-length-4 : tie.Need-same-length-4
 same-length-4 c = search needs
@@ -94,16 +101,14 @@ returns-4 c =
     let g = c .before .before in
     let q = g .before .before .before .before in
     let a = q .before .before .before .before in
-    let x = a .before .before .before .before .before in
+    let x = a .before .before .before .before in
     let k = x .before .before in
-    let t = k .before .before in
-    let d = t .before .before in
+    let d = k .before .before .before in
     let e = d .before in
-    let s = e .before .before .before .before .before in
-    let y = sym (e .before .fits2 .ensures) ∙ not-false _ (e .if1 .left) in
-    let h = words-hold _ _ (t .take-state .ensures) (k .if3 .left) in
-    let w = progress-kept _ _ h (λ i b. omega (arith, e .before .before .before .before .slice-known .given i)) (pair-means _ _ _ y .0) _ _ _ (x .step .ensures .0) in
-    let l = fix-taken _ _ _ _ _ _ (fix-fits _ _ _ y (d .if2 .left)) _ _ _ _ _ (h .taken) (x .step .ensures .0) (g .put-progress .ensures ∙ w) (a .put-answer .ensures) (q .put-command .ensures) in
+    let f = fix-fits _ _ _ (fitting e) (d .if2 .left) in
+    let n = sym (k .before .holds-state .ensures) ∙ not-false _ (k .if3 .left) in
+    let l = fix-taken _ _ _ _ _ _ f _ _ _ _ (x .decide-at .ensures .1) (long e .0) n (x .decide-at .ensures .0) (g .put-progress .ensures)
+    (a .put-answer .ensures) (q .put-command .ensures) in
     (l .result, (l .words, (l .answered, l .commanded)))
 
 pub farnkuppel-fix-spec : {M : Type 1} → statement M
@@ -115,21 +120,18 @@ farnkuppel-fix-spec =
     returns
     cast-result-2
     returns-2
-    take-state-requires
-    slice-read-refuse
-    slice-read-refuse-2
-    slice-read-refuse-3
+    holds-state-requires
     refuse-requires
     cast-result-3
     same-length
     same-length-2
     same-length-3
     returns-3
-    step-requires
-    cast-number
+    decide-at-requires
     put-answer-requires
     put-command-requires
     put-progress-requires
+    cast-result-4
     same-length-4
     same-length-5
     same-length-6

@@ -1,13 +1,21 @@
--- `farnkuppel_load` writes the loaded state and the answer, or nothing where a slice is too short. Assumes nothing.
-use mathlib.Core.Path.{sym, ap, _∙_}
+-- `farnkuppel_load` fills the blocks of the words and puts the words before them, or writes nothing where a slice is too short. Assumes nothing.
+use mathlib.Core.Path.{_≡_, refl, sym, ap, _∙_}
 use mathlib.Core.List.{[], _∷_}
-use Prim.Native.Nat.{ℕ}
+use Prim.Native.Nat.{ℕ, _≤_}
+use native.Mathlib.Omega.{arith}
+use lib.ListN.{length}
 use borrow.Author.Tests.{not-true, not-false}
-use borrow.Author.Needs.{needs}
 use Rattle.buffers.specs.Splice.{over}
-use Rattle.autopilot.proofs.CallLaws.{pair-means, load-unfit, load-fit}
+use Rattle.c_state.specs.Stored.{stateLength}
+use Rattle.wpl.proofs.LoadLaws.{loaded-filled}
+use Rattle.autopilot.proofs.CallLaws.{pair-means, all-lent, load-unfit, load-fit}
+use borrow.Author.Needs.{needs}
 use Rattle.autopilot.proofs.farnkuppel_load.Statement.{statement}
 use Rattle.autopilot.proofs.farnkuppel_load.Tie as tie
+
+-- the slices have their lengths
+long : (e : tie.Else1) → (stateLength ≤ length (e .before .before .before .before .args .state .now)) × (2 ≤ length (e .before .before .before .before .args .answer .now))
+long e = pair-means _ _ _ (sym (e .before .fits2 .ensures) ∙ not-false _ (e .if1 .left))
 
 fits-requires : tie.Need-fits-requires
 fits-requires c κs = search needs
@@ -20,11 +28,20 @@ returns c =
     let l = load-unfit _ _ _ _ (sym (c .before .fits2 .ensures) ∙ not-true _ (c .if1 .taken)) in
     (l .result, (l .words, l .answered))
 
-load-requires : tie.Need-load-requires
-load-requires c κs = search needs
+sub-load-into : tie.Need-sub-load-into
+sub-load-into c = search needs
 
-put-state-requires : tie.Need-put-state-requires
-put-state-requires c κs = let e = c .before .before .before in pair-means _ _ _ (sym (e .before .fits2 .ensures) ∙ not-false _ (e .if1 .left)) .0
+part-load-into-start : tie.Need-part-load-into-start
+part-load-into-start c = search needs
+
+part-load-into-end : tie.Need-part-load-into-end
+part-load-into-end c = let p = long c in search needs
+
+load-into-requires : tie.Need-load-into-requires
+load-into-requires c κs = all-lent (c .before .before .before .before .before .args .state .now) (long (c .before) .0)
+
+put-head-requires : tie.Need-put-head-requires
+put-head-requires c κs = let p = long (c .before .before .before .before .before .before) in search needs
 
 cast-number : tie.Need-cast-number
 cast-number c = search needs
@@ -32,8 +49,11 @@ cast-number c = search needs
 word-requires : tie.Need-word-requires
 word-requires c κs = search needs
 
-put-two-requires : tie.Need-put-two-requires
-put-two-requires c κs = let e = c .before .before .before .before .before .before .before .before .before in pair-means _ _ _ (sym (e .before .fits2 .ensures) ∙ not-false _ (e .if1 .left)) .1
+slice-aggregate-put-words : tie.Need-slice-aggregate-put-words
+slice-aggregate-put-words c = search needs
+
+put-words-requires : tie.Need-put-words-requires
+put-words-requires c κs = long (c .before .before .before .before .before .before .before .before .before .before .before .before) .1
 
 same-length : tie.Need-same-length
 same-length c = search needs
@@ -44,13 +64,14 @@ same-length-2 c = search needs
 returns-2 : tie.Need-returns-2
 returns-2 c =
     let p = c .before .before in
-    let w = p .before .before in
-    let q = w .before .before .before .before in
-    let d = q .before .before .before in
-    let e = d .before in
-    let s = e .before .before .before .before .before in
-    let l = load-fit _ _ _ _ (sym (e .before .fits2 .ensures) ∙ not-false _ (e .if1 .left)) (d .load .result) _ _ (d .load .ensures) (q .put-state .ensures)
-    (p .put-two .ensures ∙ ap (λ (n : ℕ). over (d .load .result .refusal ∷ n ∷ []) (s .args .answer .now)) (w .word .ensures)) in
+    let w = p .before .before .before in
+    let h = w .before .before .before in
+    let d = h .before .before .before .before .before in
+    let e = d .before .before in
+    let s = e .before .before .before .before in
+    let l = load-fit _ _ (s .args .state .now) (s .args .answer .now) (sym (e .before .fits2 .ensures) ∙ not-false _ (e .if1 .left)) _ _ _ (loaded-filled _ _ _ refl) (omega (arith, long e .0))
+    (d .load-into .ensures .0) (d .load-into .ensures .1) (h .put-head .ensures)
+    (p .put-words .ensures ∙ ap (λ (n : ℕ). over (d .load-into .result .refusal ∷ n ∷ []) (s .args .answer .now)) (w .word .ensures)) in
     (l .result, (l .words, l .answered))
 
 pub farnkuppel-load-spec : {M : Type 1} → statement M
@@ -60,11 +81,15 @@ farnkuppel-load-spec =
     fits-requires
     cast-result
     returns
-    load-requires
-    put-state-requires
+    sub-load-into
+    part-load-into-start
+    part-load-into-end
+    load-into-requires
+    put-head-requires
     cast-number
     word-requires
-    put-two-requires
+    slice-aggregate-put-words
+    put-words-requires
     same-length
     same-length-2
     returns-2)

@@ -1,15 +1,15 @@
 -- `write_points` ends: the measure of its loop is the places that are left. Assumes nothing.
 use Prim.Native.Nat.{_-_}
-use borrow.Author.Needs.{needs}
 use Rattle.plan.specs.Limits.{mostPoints}
+use borrow.Author.Needs.{needs}
 use Rattle.listing.proofs.write_points.Statement.{statement}
 use Rattle.listing.proofs.write_points.Tie as tie
 
 abbrev Inv-loop : tie.InvT-loop
-Inv-loop plan mode i₀ t7 i = Unit {0}
+Inv-loop plan head mode i₀ t10 i = Unit {0}
 
 abbrev μ-loop : tie.MeasureT-loop
-μ-loop plan mode i₀ t7 i = mostPoints - i
+μ-loop plan head mode i₀ t10 i = mostPoints - i
 
 loop-holds : tie.Need-loop-holds Inv-loop μ-loop
 loop-holds c = search needs
@@ -17,11 +17,23 @@ loop-holds c = search needs
 returns : tie.Need-returns Inv-loop μ-loop
 returns c = search needs
 
-mul-point : tie.Need-mul-point Inv-loop μ-loop
-mul-point c = search needs
+mul-north : tie.Need-mul-north Inv-loop μ-loop
+mul-north c = search needs
 
-element-copy-out-point : tie.Need-element-copy-out-point Inv-loop μ-loop
-element-copy-out-point c = search needs
+element-copy-out-north : tie.Need-element-copy-out-north Inv-loop μ-loop
+element-copy-out-north c = search needs
+
+mul-east : tie.Need-mul-east Inv-loop μ-loop
+mul-east c = search needs
+
+element-copy-out-east : tie.Need-element-copy-out-east Inv-loop μ-loop
+element-copy-out-east c = search needs
+
+mul-down : tie.Need-mul-down Inv-loop μ-loop
+mul-down c = search needs
+
+element-copy-out-down : tie.Need-element-copy-out-down Inv-loop μ-loop
+element-copy-out-down c = search needs
 
 mul-course : tie.Need-mul-course Inv-loop μ-loop
 mul-course c = search needs
@@ -61,8 +73,12 @@ write-points-spec =
     μ-loop
     loop-holds
     returns
-    mul-point
-    element-copy-out-point
+    mul-north
+    element-copy-out-north
+    mul-east
+    element-copy-out-east
+    mul-down
+    element-copy-out-down
     mul-course
     element-copy-out-course
     add-i

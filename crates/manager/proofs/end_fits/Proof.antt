@@ -1,9 +1,7 @@
--- `end_fits` decides whether a finished state is at its end. Assumes nothing.
-use mathlib.Core.Path.{sym, _∙_}
-use mathlib.Core.Bool.{true}
+-- `end_fits` decides whether a finished flight is at its end. Assumes nothing.
 use borrow.Author.Needs.{needs}
 use Rattle.integers.proofs.ChooseLaws.{choose-true, choose-false}
-use Rattle.manager.specs.State.{atEnd, endFits}
+use Rattle.manager.specs.State.{endFits}
 use Rattle.manager.proofs.end_fits.Statement.{statement}
 use Rattle.manager.proofs.end_fits.Tie as tie
 
@@ -13,14 +11,14 @@ at-end-requires c κs = search needs
 returns : tie.Need-returns
 unfolding endFits
 returns c =
-    let s = c .before .before .args .s in
-    c .at-end .ensures ∙ sym (choose-true (s .finished) (atEnd s) true (c .before .if1 .taken))
+    let t = c .before .if1 .taken in
+    rw choose-true (c .at-end .ensures)
 
 returns-2 : tie.Need-returns-2
 unfolding endFits
 returns-2 c =
-    let s = c .before .args .s in
-    sym (choose-false (s .finished) (atEnd s) true (c .if1 .left))
+    let t = c .if1 .left in
+    rw choose-false
 
 pub end-fits-spec : {M : Type 1} → statement M
 end-fits-spec = tie.close (tie.spec at-end-requires returns returns-2)

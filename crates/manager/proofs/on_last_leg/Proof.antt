@@ -1,6 +1,4 @@
 -- `on_last_leg` decides whether a leg is the last one. Assumes nothing.
-use mathlib.Core.Path.{ap}
-use lib.Dec.{eqb}
 use borrow.Author.Needs.{needs}
 use Rattle.manager.specs.State.{onLastLeg}
 use Rattle.manager.proofs.on_last_leg.Statement.{statement}
@@ -11,7 +9,7 @@ last-index-requires c κs = search needs
 
 returns : tie.Need-returns
 unfolding onLastLeg
-returns c = ap (eqb (c .before .args .index)) (c .last-index .ensures)
+returns c = rw (c .last-index .ensures)
 
 pub on-last-leg-spec : {M : Type 1} → statement M
 on-last-leg-spec = tie.close (tie.spec last-index-requires returns)

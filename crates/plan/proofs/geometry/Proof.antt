@@ -1,9 +1,9 @@
 -- `geometry` asks all pairs, then all corners, then all legs. Assumes nothing.
 use mathlib.Core.Path.{sym, ap, _∙_}
-use borrow.Author.Needs.{needs}
 use Rattle.refusals.specs.Outcome.{refusalOf}
-use Rattle.plan.specs.Places.{pointOf, courseOf}
+use Rattle.plan.specs.Places.{placeAt, courseAt}
 use Rattle.plan.proofs.RuleLaws.{geometry-pairs, geometry-rest, same-number}
+use borrow.Author.Needs.{needs}
 use Rattle.plan.proofs.geometry.Statement.{statement}
 use Rattle.plan.proofs.geometry.Tie as tie
 
@@ -16,16 +16,16 @@ corners-and-legs-requires c κs = search needs
 returns : tie.Need-returns
 returns c =
     let a = c .before .before .before in
-    let p = a .before .args .p in
+    let s = a .before .args in
     c .corners-and-legs .ensures
-    ∙ sym (ap refusalOf (geometry-rest (p .mode) (p .radius) (p .count) (pointOf p) (courseOf p) (same-number (a .pairs .ensures) ∙ c .before .if1 .taken)))
+    ∙ sym (ap refusalOf (geometry-rest (s .head .mode) (s .head .radius) (s .head .count) (placeAt (s .norths .now) (s .easts .now) (s .downs .now)) (courseAt (s .courses .now)) (same-number (a .pairs .ensures) ∙ c .before .if1 .taken)))
 
 returns-2 : tie.Need-returns-2
 returns-2 c =
     let a = c .before .before in
-    let p = a .before .args .p in
+    let s = a .before .args in
     a .pairs .ensures
-    ∙ sym (geometry-pairs (p .mode) (p .radius) (p .count) (pointOf p) (courseOf p) (λ z. c .if1 .left (sym (same-number (a .pairs .ensures)) ∙ z)))
+    ∙ sym (geometry-pairs (s .head .mode) (s .head .radius) (s .head .count) (placeAt (s .norths .now) (s .easts .now) (s .downs .now)) (courseAt (s .courses .now)) (λ z. c .if1 .left (sym (same-number (a .pairs .ensures)) ∙ z)))
 
 pub geometry-spec : {M : Type 1} → statement M
 geometry-spec = tie.close (tie.spec pairs-requires corners-and-legs-requires returns returns-2)

@@ -2,26 +2,31 @@
 use mathlib.Core.Path.{sym, ap, _∙_}
 use mathlib.Core.Bool.{false}
 use Prim.Native.Nat.{ℕ}
-use native.Mathlib.Omega.{arith}
 use lib.Dec.{eqb}
-use borrow.Author.Needs.{needs}
 use Rattle.refusals.specs.Outcome.{refusalOf}
 use Rattle.refusals.proofs.Bools.{clash}
+use Rattle.plan.specs.declared.Plan.{Plan}
 use Rattle.plan.specs.Limits.{radiusFits}
+use Rattle.plan.specs.Places.{seen}
 use Rattle.plan.specs.Stands.{placesFit, rulesOf, standsOf}
 use Rattle.plan.proofs.LimitLaws.{told}
-use Rattle.plan.proofs.StandLaws.{stands-found, stands-fails, stands-means}
+use Rattle.plan.proofs.StandLaws.{stands-found, stands-fails, stands-means, places-mean}
+use native.Mathlib.Omega.{arith}
+use borrow.Author.Needs.{needs}
 use Rattle.plan.proofs.stands.Statement.{statement}
 use Rattle.plan.proofs.stands.Tie as tie
 
+abbrev plan : tie.Start → Plan
+plan s = let a = s .args in seen (a .head) (a .norths .now) (a .easts .now) (a .downs .now) (a .courses .now)
+
 returns : tie.Need-returns
 returns c =
-    let p = c .before .before .args .p in
+    let p = plan (c .before .before) in
     told false (standsOf p) (stands-means p) (sym (stands-fails p (λ t. t .serial (c .if1 .taken))))
 
 returns-2 : tie.Need-returns-2
 returns-2 c =
-    let p = c .before .before .before .before .args .p in
+    let p = plan (c .before .before .before .before) in
     told false (standsOf p) (stands-means p) (sym (stands-fails p (λ t. omega (arith, t .most, c .if2 .taken))))
 
 radius-fits-requires : tie.Need-radius-fits-requires
@@ -37,8 +42,10 @@ rules-requires : tie.Need-rules-requires
 rules-requires c κs =
     let f = c .before .before in
     let r = f .before .before in
-    let n = f .places-fit .ensures .1 (c .before .if4 .taken) in
-    record { ranged = n .0; radius = r .radius-fits .ensures .1 (f .before .if3 .taken); aimed = n .1 }
+    let a = r .before .before .before .before .before in
+    let p = plan a in
+    let n = places-mean p (sym (f .places-fit .ensures) ∙ c .before .if4 .taken) in
+    (a .pre, record { ranged = n .0; radius = r .radius-fits .ensures .1 (f .before .if3 .taken); aimed = n .1 })
 
 returns-3 : tie.Need-returns-3
 returns-3 c =
@@ -47,22 +54,22 @@ returns-3 c =
     let r = f .before .before in
     let b = r .before in
     let a = b .before .before in
-    let p = a .before .before .args .p in
+    let p = plan (a .before .before) in
     let rules = c .before .rules in
     told (eqb (rules .result .number) 0) (standsOf p) (stands-means p)
-    (stands-found p (a .if1 .left) (b .if2 .left) (sym (r .radius-fits .ensures .0) ∙ f .before .if3 .taken) (sym (f .places-fit .ensures .0) ∙ g .before .if4 .taken)
+    (stands-found p (a .if1 .left) (b .if2 .left) (sym (r .radius-fits .ensures .0) ∙ f .before .if3 .taken) (sym (f .places-fit .ensures) ∙ g .before .if4 .taken)
     (rules .result) (rules .ensures ∙ ap (λ (n : ℕ). refusalOf (rulesOf p n)) (g .given-of .ensures)))
 
 returns-4 : tie.Need-returns-4
 returns-4 c =
     let r = c .before .before .before in
-    let p = r .before .before .before .before .before .args .p in
-    told false (standsOf p) (stands-means p) (sym (stands-fails p (λ t. clash (placesFit p) (t .places) (sym (c .before .places-fit .ensures .0) ∙ c .if4 .left))))
+    let p = plan (r .before .before .before .before .before) in
+    told false (standsOf p) (stands-means p) (sym (stands-fails p (λ t. clash (placesFit p) (t .places) (sym (c .before .places-fit .ensures) ∙ c .if4 .left))))
 
 returns-5 : tie.Need-returns-5
 returns-5 c =
-    let p = c .before .before .before .before .before .before .args .p in
-    told false (standsOf p) (stands-means p) (sym (stands-fails p (λ t. clash (radiusFits (p .mode) (p .radius)) (t .radius) (sym (c .before .radius-fits .ensures .0) ∙ c .if3 .left))))
+    let p = plan (c .before .before .before .before .before .before) in
+    told false (standsOf p) (stands-means p) (sym (stands-fails p (λ t. clash (radiusFits (p .head .mode) (p .head .radius)) (t .radius) (sym (c .before .radius-fits .ensures .0) ∙ c .if3 .left))))
 
 pub stands-spec : {M : Type 1} → statement M
 stands-spec =

@@ -5,14 +5,14 @@ use Rattle.wpl.proofs.NoteLaws.{note-refused, note-loaded, part-at, par
 use Rattle.wpl.proofs.note.Statement.{statement}
 use Rattle.wpl.proofs.note.Tie as tie
 
-load-requires : tie.Need-load-requires
-load-requires c κs = search needs
+refusal-requires : tie.Need-refusal-requires
+refusal-requires c κs = search needs
 
 slice-aggregate-result : tie.Need-slice-aggregate-result
 slice-aggregate-result c = search needs
 
 returns : tie.Need-returns
-returns c = sym (note-refused _ _ _ (c .before .before .before .load .ensures) (c .before .if1 .taken))
+returns c = sym (note-refused _ _ _ (c .before .before .refusal .ensures) (c .before .if1 .taken))
 
 find-note-requires : tie.Need-find-note-requires
 find-note-requires c κs = search needs
@@ -49,19 +49,19 @@ returns-2 c =
     let g = c .before .before .start .given in
     let n = c .before .before .before .before in
     let e = n .before in
-    part-at _ _ (g .0 .0) (g .0 .1 .0) (g .1) ∙ n .find-note .ensures .0 ∙ sym (note-loaded _ _ _ (e .before .before .load .ensures) (e .if1 .left))
+    part-at _ _ (g .0 .0) (g .0 .1 .0) (g .1) ∙ n .find-note .ensures .0 ∙ sym (note-loaded _ _ _ (e .before .refusal .ensures) (e .if1 .left))
 
 returns-3 : tie.Need-returns-3
 returns-3 c =
     let n = c .before .before .before in
     let e = n .before in
-    part-nothing _ _ (c .before .enum-told .given .1) ∙ n .find-note .ensures .0 ∙ sym (note-loaded _ _ _ (e .before .before .load .ensures) (e .if1 .left))
+    part-nothing _ _ (c .before .enum-told .given .1) ∙ n .find-note .ensures .0 ∙ sym (note-loaded _ _ _ (e .before .refusal .ensures) (e .if1 .left))
 
 pub note-spec : {M : Type 1} → statement M
 note-spec =
     tie.close
     (tie.spec
-    load-requires
+    refusal-requires
     slice-aggregate-result
     returns
     find-note-requires

@@ -33,7 +33,7 @@ carried-since-requires c κs = search needs
 returns-4 : tie.Need-returns-4
 unfolding refusalOf
 returns-4 c =
-    let h = c .before .before .before in
+    let h = c .before .before in
     let v = h .before .before in
     ap refusalOf
     (not-carried _ _ _ (sym (v .before .valid .ensures .0) ∙ not-false _ (v .if1 .left)) (h .before .if2 .left) (h .if3 .left)
@@ -41,33 +41,35 @@ returns-4 c =
 
 file-length-requires : tie.Need-file-length-requires
 file-length-requires c κs =
-    let v = c .before .before .before .before .before in
+    let v = c .before .before .before .before in
     count-most _ (sym (v .before .valid .ensures .0) ∙ not-false _ (v .if1 .left))
 
 returns-5 : tie.Need-returns-5
 unfolding refusalOf
 returns-5 c =
     let k = c .before .before in
-    let h = k .before .before .before in
+    let h = k .before .before in
     let v = h .before .before in
+    let a = v .before .before .args in
     ap refusalOf
     (no-room _ _ _ (sym (v .before .valid .ensures .0) ∙ not-false _ (v .if1 .left)) (h .before .if2 .left) (h .if3 .left)
     (omega (arith, k .if4 .left, k .before .carried-since .ensures))
-    (omega (arith, c .if5 .taken, c .before .file-length .ensures (v .before .before .args .version))))
+    (omega (arith, c .if5 .taken, c .before .file-length .ensures (a .version) (a .norths .now) (a .easts .now) (a .downs .now) (a .courses .now))))
 
 returns-6 : tie.Need-returns-6
 unfolding refusalOf
 returns-6 c =
     let k = c .before .before in
-    let h = k .before .before .before in
+    let h = k .before .before in
     let v = h .before .before in
+    let a = v .before .before .args in
     ap refusalOf
     (write-passes _ _ _
     (record {
       valid = sym (v .before .valid .ensures .0) ∙ not-false _ (v .if1 .left);
       newer = h .if3 .left;
       carried = omega (arith, k .if4 .left, k .before .carried-since .ensures);
-      roomy = omega (arith, c .if5 .left, c .before .file-length .ensures (v .before .before .args .version));
+      roomy = omega (arith, c .if5 .left, c .before .file-length .ensures (a .version) (a .norths .now) (a .easts .now) (a .downs .now) (a .courses .now));
     }))
 
 pub write-refusal-spec : {M : Type 1} → statement M

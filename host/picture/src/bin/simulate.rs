@@ -24,7 +24,9 @@ const NEWEST: u32 = 3;
 const CIRCLE: f64 = 4096.0;
 const STATE_WORDS: usize = 263;
 const STATE_SERIAL: usize = 0;
-const STATE_POINTS: usize = 7;
+const STATE_NORTHS: usize = 7;
+const STATE_EASTS: usize = 71;
+const STATE_DOWNS: usize = 135;
 const LOAD_WORDS: usize = 2;
 const ANSWER_WORDS: usize = 8;
 const ANSWER_HEADING: usize = 4;
@@ -37,14 +39,14 @@ extern "C" {
         file: *const u8,
         file_length: usize,
         reader: u32,
-        state: *mut u32,
+        state: *mut i32,
         state_length: usize,
         answer: *mut u32,
         answer_length: usize,
     ) -> u32;
 
     fn farnkuppel_fix(
-        state: *mut u32,
+        state: *mut i32,
         state_length: usize,
         serial: u32,
         north: f32,
@@ -57,7 +59,7 @@ extern "C" {
     ) -> u32;
 }
 
-type State = [u32; STATE_WORDS];
+type State = [i32; STATE_WORDS];
 
 /// Metres, and radians clockwise from north.
 struct Aircraft {
@@ -91,7 +93,7 @@ fn load(file: &[u8]) -> Result<State, String> {
 
 /// The answer to a fix where the aircraft is.
 fn fix(state: &mut State, plane: &Aircraft) -> Result<[u32; ANSWER_WORDS], String> {
-    let serial = state[STATE_SERIAL];
+    let serial = state[STATE_SERIAL] as u32;
     let (north, east, down) = (plane.north as f32, plane.east as f32, plane.down as f32);
     let mut answer = [0; ANSWER_WORDS];
     let mut command = [0.0; COMMAND_NUMBERS];
@@ -117,14 +119,15 @@ fn fix(state: &mut State, plane: &Aircraft) -> Result<[u32; ANSWER_WORDS], Strin
     }
 }
 
-/// Over the first point, heading for the second. Points are in decimetres in the state's words, signed.
+/// Over the first point, heading for the second. Points are in decimetres in the state's words.
 fn over_first_point(state: &State) -> Aircraft {
-    let metres = |i: usize| f64::from(state[STATE_POINTS + i] as i32) / 10.0;
-    let heading = (metres(4) - metres(1)).atan2(metres(3) - metres(0));
+    let metres = |place: usize| f64::from(state[place]) / 10.0;
+    let (north, east) = (metres(STATE_NORTHS), metres(STATE_EASTS));
+    let heading = (metres(STATE_EASTS + 1) - east).atan2(metres(STATE_NORTHS + 1) - north);
     Aircraft {
-        north: metres(0),
-        east: metres(1),
-        down: metres(2),
+        north,
+        east,
+        down: metres(STATE_DOWNS),
         heading,
     }
 }
@@ -149,7 +152,7 @@ fn put(fixes: &mut Vec<u8>, serial: u32, north: f64, plane: &Aircraft) {
 /// Flies until the manager says finished, and gathers the fixes. Strays are written and not flown.
 fn fly(state: &mut State, fixes: &mut Vec<u8>) -> Result<(), String> {
     let mut plane = over_first_point(state);
-    let serial = state[STATE_SERIAL];
+    let serial = state[STATE_SERIAL] as u32;
     for count in 1..=MOST_SECONDS * FIXES_A_SECOND {
         put(fixes, serial, plane.north, &plane);
         if count % OTHER_SERIAL == 0 {

@@ -3,6 +3,7 @@ use Prim.Native.Nat.{_≤_, _-_}
 use borrow.Author.Needs.{needs}
 use Rattle.examples.proofs.flights.courses_at.Statement.{statement}
 use Rattle.examples.proofs.flights.courses_at.Tie as tie
+use Rattle.records.proofs.u16_at.Reads as u16-at-reads
 
 abbrev Inv-loop : tie.InvT-loop
 Inv-loop s i courses₀ n k₀ courses k = k ≤ n
@@ -28,11 +29,14 @@ add-u16-at-2 c = search needs
 u16-at-requires : tie.Need-u16-at-requires Inv-loop μ-loop
 u16-at-requires c κs = search needs
 
+cast-courses : tie.Need-cast-courses Inv-loop μ-loop
+cast-courses c = search needs
+
 mul-courses : tie.Need-mul-courses Inv-loop μ-loop
 mul-courses c = search needs
 
-array-write-courses : tie.Need-array-write-courses Inv-loop μ-loop
-array-write-courses c = search needs
+array-set-from-courses : tie.Need-array-set-from-courses Inv-loop μ-loop
+array-set-from-courses c = search needs
 
 add-k : tie.Need-add-k Inv-loop μ-loop
 add-k c = search needs
@@ -58,8 +62,9 @@ courses-at-spec =
     mul-u16-at
     add-u16-at-2
     u16-at-requires
+    cast-courses
     mul-courses
-    array-write-courses
+    array-set-from-courses
     add-k
     loop-less
     loop-again

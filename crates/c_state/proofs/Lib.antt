@@ -1,0 +1,2 @@
+pub mod HoldsLaws
+pub mod StoredLaws

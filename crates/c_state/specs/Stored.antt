@@ -1,0 +1,133 @@
+-- A state as C sees it: "int32_t" words at fixed places, seven that hold numbers with no sign by their bits, then a block for each kind of
+-- number of the plan. Assumes nothing.
+use mathlib.Core.Bool.{Bool}
+use mathlib.Core.List.{List, [], _∷_, _++_, map}
+use Prim.Native.Nat.{ℕ, _+_, _<_}
+use lib.Dec.{eqb, leb, ltb}
+use lib.IntN.{ℤ}
+use lib.ListN.{take, drop}
+use mir.Syntax.{w32}
+use mir.Val.{SFits, toZ, ofZ}
+use Rattle.integers.specs.Choose.{choose}
+use Rattle.refusals.specs.Numbers.{noState}
+use Rattle.refusals.specs.Outcome.{Outcome, good, check}
+use Rattle.refusals.specs.Sweep.{both}
+use Rattle.plan.specs.declared.Mode.{Mode}
+use Rattle.plan.specs.declared.Mode.the-variants.{Lines, Fillets, Dubins}
+use Rattle.plan.specs.declared.Head.{Head}
+use Rattle.plan.specs.declared.Plan.{Plan}
+use Rattle.plan.specs.Limits.{mostPoints}
+use Rattle.plan.specs.Places.{numberAt, seen, numbersOf, Filled}
+use Rattle.manager.specs.declared.Progress.{Progress}
+use Rattle.manager.specs.declared.State.{State}
+use Rattle.c_answer.specs.Words.{wordOf, flagOf}
+
+-- ---- the places
+abbrev pub serialPlace : ℕ
+serialPlace = 0
+
+abbrev pub modePlace : ℕ
+modePlace = 1
+
+abbrev pub radiusPlace : ℕ
+radiusPlace = 2
+
+abbrev pub countPlace : ℕ
+countPlace = 3
+
+abbrev pub indexPlace : ℕ
+indexPlace = 4
+
+abbrev pub phasePlace : ℕ
+phasePlace = 5
+
+abbrev pub finishedPlace : ℕ
+finishedPlace = 6
+
+abbrev pub northsPlace : ℕ
+northsPlace = 7
+
+abbrev pub eastsPlace : ℕ
+eastsPlace = northsPlace + mostPoints
+
+abbrev pub downsPlace : ℕ
+downsPlace = eastsPlace + mostPoints
+
+abbrev pub coursesPlace : ℕ
+coursesPlace = downsPlace + mostPoints
+
+abbrev pub stateLength : ℕ
+stateLength = coursesPlace + mostPoints
+
+-- 0 lines, 1 fillets, 2 Dubins
+unfoldable pub modeWord : Mode → ℕ
+modeWord Lines = 0
+modeWord Fillets = 1
+modeWord Dubins = 2
+
+unfoldable pub modeAt : ℕ → Mode
+modeAt n = choose (eqb n 0) Lines (choose (eqb n 1) Fillets Dubins)
+
+-- ---- into words
+-- numbers with no sign
+abbrev pub inWords : List ℕ → List ℤ
+inWords ns = map (toZ w32) ns
+
+abbrev pub headWords : Head → List ℤ
+headWords h = inWords (h .serial ∷ modeWord (h .mode) ∷ h .radius ∷ wordOf (h .count) ∷ [])
+
+abbrev pub progressWords : Progress → List ℤ
+progressWords p = inWords (wordOf (p .index) ∷ p .phase ∷ flagOf (p .finished) ∷ [])
+
+unfoldable pub stateWords : State → List ℤ
+stateWords s = headWords (s .plan .head) ++ (progressWords (s .progress) ++ numbersOf (s .plan))
+
+-- ---- out of words
+-- a word's bits
+unfoldable pub wordAt : List ℤ → ℕ → ℕ
+wordAt ws i = ofZ w32 (numberAt ws i)
+
+abbrev pub headAt : List ℤ → Head
+headAt ws =
+    record {
+      serial = wordAt ws serialPlace;
+      mode = modeAt (wordAt ws modePlace);
+      radius = wordAt ws radiusPlace;
+      count = wordAt ws countPlace;
+    }
+
+abbrev pub progressAt : List ℤ → Progress
+progressAt ws = record { index = wordAt ws indexPlace; phase = wordAt ws phasePlace; finished = eqb (wordAt ws finishedPlace) 1 }
+
+-- as many words as a plan has places
+abbrev pub part : ℕ → List ℤ → List ℤ
+part place ws = take mostPoints (drop place ws)
+
+abbrev pub planAt : List ℤ → Plan
+planAt ws = seen (headAt ws) (part northsPlace ws) (part eastsPlace ws) (part downsPlace ws) (part coursesPlace ws)
+
+abbrev pub stateAt : List ℤ → State
+stateAt ws = record { plan = planAt ws; progress = progressAt ws }
+
+-- "Words that are no state (a mode that does not exist, a field too large for its type, finished neither 0 nor 1)"
+unfoldable pub holdsState : List ℤ → Bool
+holdsState ws =
+    both (leb (wordAt ws modePlace) 2)
+    (both (ltb (wordAt ws radiusPlace) 65536) (both (ltb (wordAt ws phasePlace) 256) (leb (wordAt ws finishedPlace) 1)))
+
+-- "are refused 14"
+unfoldable pub takenOf : List ℤ → Outcome State
+takenOf ws = check (holdsState ws) noState (good (stateAt ws))
+
+-- ---- what the laws are about: numbers of a slice of i32, up to a place
+abbrev pub AreWords : ℕ → List ℤ → Type 0
+AreWords n ws = (i : ℕ) → i < n → SFits w32 (numberAt ws i)
+
+-- a state that words can keep: its small numbers fit the types of the code, count and index a word
+pub record Storable (s : State) : Type 0 where
+  pub serial : s .plan .head .serial < 4294967296
+  pub radius : s .plan .head .radius < 65536
+  pub count : s .plan .head .count < 4294967296
+  pub index : s .progress .index < 4294967296
+  pub phase : s .progress .phase < 256
+  pub filled : Filled (s .plan)

@@ -1,0 +1,171 @@
+// A state as C sees it: words that a caller keeps. The plan's numbers are lent where they lie, so that no state is made here.
+use manager::Progress;
+use plan::Head;
+use plan::Mode;
+ghost use mathlib.Core.Path.{_≡_};
+ghost use mathlib.Core.Bool.{true};
+ghost use mathlib.Core.List.{_++_};
+ghost use Prim.Native.Nat.{_≤_, _<_};
+ghost use lib.ListN.{length};
+ghost use mir.Syntax.{w32};
+ghost use mir.Val.{SFits};
+ghost use Rattle.buffers.specs.Splice.{over, splice};
+ghost use Rattle.plan.specs.Places.{numberAt};
+ghost use Rattle.c_state.specs.Stored.{indexPlace, northsPlace, stateLength, modeWord, modeAt, inWords, headWords, progressWords, wordAt, headAt, progressAt, holdsState, AreWords};
+
+// Where a state's words stand: these seven, then as many norths, easts, downs and courses as a plan has places.
+pub const SERIAL: usize = 0;
+
+pub const MODE: usize = 1;
+
+pub const RADIUS: usize = 2;
+
+pub const COUNT: usize = 3;
+
+pub const INDEX: usize = 4;
+
+pub const PHASE: usize = 5;
+
+pub const FINISHED: usize = 6;
+
+pub const NORTHS: usize = 7;
+
+pub const EASTS: usize = NORTHS + plan::POINTS;
+
+pub const DOWNS: usize = EASTS + plan::POINTS;
+
+pub const COURSES: usize = DOWNS + plan::POINTS;
+
+// How many words a state takes.
+pub const STATE: usize = COURSES + plan::POINTS;
+
+// The words of the modes.
+const LINES: u32 = 0;
+
+const FILLETS: u32 = 1;
+
+const DUBINS: u32 = 2;
+
+// The word of a state that is finished.
+const DONE: u32 = 1;
+
+// How many values one byte has, and two.
+const ONE_BYTE: u32 = 256;
+
+const TWO_BYTES: u32 = 65536;
+
+// The mode of a word.
+fn mode_of(word: u32) -> Mode
+    ensures { λ r. ⌜ r ≡ modeAt word ⌝ }
+{
+    if word == LINES {
+        return Mode::Lines;
+    }
+    if word == FILLETS {
+        return Mode::Fillets;
+    }
+    Mode::Dubins
+}
+
+// The word of a mode.
+fn mode_word(mode: Mode) -> u32
+    ensures { λ r. ⌜ r ≡ modeWord mode ⌝ }
+{
+    match mode {
+        Mode::Lines => LINES,
+        Mode::Fillets => FILLETS,
+        Mode::Dubins => DUBINS,
+    }
+}
+
+// The bits of a word, which is a number of 32 bits.
+pub fn word_at(words: &[i32], i: usize) -> u32
+    requires { ⌜ i < length (now words) ⌝ }
+    ensures { λ r. ⌜ (r ≡ wordAt (now (words .entry)) i) × SFits w32 (numberAt (now (words .entry)) i) ⌝ }
+{
+    integers::unsigned(words[i])
+}
+
+// Whether words hold a state: a mode that exists, and each small number in its type. What is wrong with the plan, the manager refuses.
+pub fn holds_state(words: &[i32]) -> bool
+    requires { ⌜ stateLength ≤ length (now words) ⌝ }
+    ensures { λ r. ⌜ r ≡ holdsState (now (words .entry)) ⌝ }
+{
+    if word_at(words, MODE) <= DUBINS {
+        if word_at(words, RADIUS) < TWO_BYTES {
+            if word_at(words, PHASE) < ONE_BYTE {
+                return word_at(words, FINISHED) <= DONE;
+            }
+        }
+    }
+    false
+}
+
+// What words that hold a state say of its plan beside the numbers. All words of it are read.
+pub fn head_at(words: &[i32]) -> Head
+    requires { ⌜ (stateLength ≤ length (now words)) × (holdsState (now words) ≡ true) ⌝ }
+    ensures { λ r. ⌜ (r ≡ headAt (now (words .entry))) × AreWords indexPlace (now (words .entry)) ⌝ }
+{
+    let mode = mode_of(word_at(words, MODE));
+    Head {
+        serial: word_at(words, SERIAL),
+        mode,
+        radius: word_at(words, RADIUS) as u16,
+        count: word_at(words, COUNT) as usize,
+    }
+}
+
+// How far they say that it is flown.
+pub fn progress_at(words: &[i32]) -> Progress
+    requires { ⌜ (stateLength ≤ length (now words)) × (holdsState (now words) ≡ true) ⌝ }
+    ensures { λ r. ⌜ r ≡ progressAt (now (words .entry)) ⌝ }
+{
+    Progress {
+        index: word_at(words, INDEX) as usize,
+        phase: word_at(words, PHASE) as u8,
+        finished: word_at(words, FINISHED) == DONE,
+    }
+}
+
+// Numbers with no sign at the front of a part.
+fn put_bits(bits: &[u32], part: &mut [i32])
+    requires { ⌜ length (now bits) ≤ length (now part) ⌝ }
+    ensures { λ _. ⌜ now (part .exit) ≡ over (inWords (now (bits .entry))) (now (part .entry)) ⌝ }
+{
+    let mut i: usize = 0;
+    while i < bits.len() {
+        part[i] = integers::signed(bits[i]);
+        i += 1;
+    }
+}
+
+// The words before the blocks.
+pub fn put_head(head: Head, progress: Progress, words: &mut [i32])
+    requires { ⌜ northsPlace ≤ length (now words) ⌝ }
+    ensures { λ _. ⌜ now (words .exit) ≡ over (headWords head ++ progressWords progress) (now (words .entry)) ⌝ }
+{
+    let mode = head.mode;
+    let bits = [
+        head.serial,
+        mode_word(mode),
+        head.radius as u32,
+        c_answer::word(head.count),
+        c_answer::word(progress.index),
+        progress.phase as u32,
+        c_answer::flag(progress.finished),
+    ];
+    put_bits(&bits, words);
+}
+
+// Index, phase and finished alone.
+pub fn put_progress(progress: Progress, words: &mut [i32])
+    requires { ⌜ northsPlace ≤ length (now words) ⌝ }
+    ensures { λ _. ⌜ now (words .exit) ≡ splice indexPlace (progressWords progress) (now (words .entry)) ⌝ }
+{
+    let bits = [
+        c_answer::word(progress.index),
+        progress.phase as u32,
+        c_answer::flag(progress.finished),
+    ];
+    put_bits(&bits, &mut words[INDEX..]);
+}

@@ -1,4 +1,0 @@
-pub mod ListedLaws
-pub mod HoldsLaws
-pub mod PutLaws
-pub mod StoredLaws
