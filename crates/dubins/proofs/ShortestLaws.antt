@@ -1,4 +1,5 @@
--- A shortest path is found exactly when a case exists; it is the path of its own case, and no case is shorter. Assumes nothing.
+-- A shortest path is found exactly when a case exists; it is the path of its own case, and no case is shorter. No case is shorter than its
+-- straight part. Assumes nothing.
 use mathlib.Core.Path.{_≡_, refl, sym, ap, _∙_, subst}
 use mathlib.Core.Bool.{Bool, true, false, _||_}
 use Prim.Native.Nat.{ℕ, zero, suc, _≤_, _<_}
@@ -9,10 +10,11 @@ use borrow.Author.Tests.{leb-true, leb-false, le-leb, lt-leb}
 use Rattle.integers.specs.Choose.{choose}
 use Rattle.integers.proofs.ChooseLaws.{choose-true, choose-false}
 use Rattle.dubins.specs.declared.Ends.{Ends}
+use Rattle.dubins.specs.declared.Circles.{Circles}
 use Rattle.dubins.specs.declared.Path.{Path}
 use Rattle.dubins.specs.declared.Found.{Found}
 use Rattle.dubins.specs.declared.Found.the-variants.{Shortest, Missing}
-use Rattle.dubins.specs.Cases.{caseExists, pathOf}
+use Rattle.dubins.specs.Cases.{circlesOf, caseExists, straightOf, courseOf, lengthOf, pathOf}
 use Rattle.dubins.specs.Choice.{casePath, shorterOf, shortestOf, hasPathOf}
 
 -- ---- of two paths
@@ -24,6 +26,25 @@ module _ (p q : Path) where
   pub later-wins : q .length < p .length → shorterOf (Shortest p) (Shortest q) ≡ Shortest q
   unfolding shorterOf
   later-wins h = choose-false (leb (p .length) (q .length)) (Shortest p) (Shortest q) (lt-leb (p .length) (q .length) h)
+
+pub only-later : (b : Found) → shorterOf Missing b ≡ b
+unfolding shorterOf
+only-later Missing = refl
+only-later (Shortest q) = refl
+
+-- ---- one case, from its parts
+module _ (ends : Ends) (case : ℕ) where
+  pub case-there : (circles : Circles) (s θ : ℕ) → caseExists ends case ≡ true → circles ≡ circlesOf ends case → s ≡ straightOf case (ends .radius) (circles .v) → θ ≡ courseOf case (ends .radius) s (circles .v) → casePath ends case ≡ Shortest (pathOf ends case circles s θ)
+  unfolding casePath choose
+  case-there circles s θ h e k l = simp (h, l, k, e)
+
+  pub case-absent : caseExists ends case ≡ false → casePath ends case ≡ Missing
+  unfolding casePath choose
+  case-absent h = simp h
+
+  pub straight-part : (circles : Circles) (s θ : ℕ) → s ≤ pathOf ends case circles s θ .length
+  unfolding pathOf lengthOf
+  straight-part circles s θ = omega arith
 
 -- ---- found exactly when a case exists
 abbrev isFound : Found → Bool

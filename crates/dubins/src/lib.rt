@@ -8,6 +8,8 @@ ghost use Rattle.course.specs.Vectors.{Near};
 ghost use Rattle.plane.specs.declared.Point.{Point};
 ghost use Rattle.plane.specs.Area.{InArea};
 ghost use Rattle.plane.specs.Level.{minus};
+ghost use Rattle.dubins.specs.declared.Path.{Path};
+ghost use Rattle.dubins.specs.declared.Found.the-variants.{Shortest};
 ghost use Rattle.dubins.specs.Limits.{IsEnds, IsCircles, IsPath, IsFound};
 ghost use Rattle.dubins.specs.Cases.{startsRight, endsRight, sameSide, centreOf, circlesOf, tangentExists, straightOf, innerTangent, courseOf, turnOf, touchOf, pathOf, caseExists};
 ghost use Rattle.dubins.specs.Choice.{casePath, shorterOf, shortestOf, hasPathOf, farApart};
@@ -251,26 +253,6 @@ fn case_exists(ends: Ends, case: u8) -> bool
     tangent_exists(v, ends.radius, case)
 }
 
-// The way of a case, where that exists, from both centres at each end.
-fn case_way(ends: Ends, from: Centres, to: Centres, case: u8) -> Tried
-    requires { ⌜ IsEnds ends × ((1 ≤ case) × (case ≤ 4)) ⌝ }
-    requires { ⌜ AreCentres (ends .start) (ends .radius) (ends .leave) from ⌝ }
-    requires { ⌜ AreCentres (ends .end) (ends .radius) (ends .arrive) to ⌝ }
-    ensures { λ r. ⌜ (foundBy (ends .radius) r ≡ casePath ends case) × IsTried r ⌝ }
-{
-    let start = centre_on(from, starts_right(case));
-    let end = centre_on(to, ends_right(case));
-    let circles = circles_at(start, end);
-    let v = circles.v;
-    if tangent_exists(v, ends.radius, case) {
-        let s = straight(v, ends.radius, case);
-        let course = straight_course(v, s, ends.radius, case);
-        Tried::Exists(way_of(ends, case, circles, s, course))
-    } else {
-        Tried::Absent
-    }
-}
-
 // The shorter of two, the earlier on a tie.
 fn shorter(a: Tried, b: Tried) -> Tried
     requires { ⌜ IsTried a × IsTried b ⌝ }
@@ -282,6 +264,41 @@ fn shorter(a: Tried, b: Tried) -> Tried
             Tried::Absent => b,
             Tried::Exists(earlier) => if earlier.length <= later.length { a } else { b },
         },
+    }
+}
+
+// Whether a case whose straight part is s long cannot win: what was found before is no longer than that part alone.
+fn cannot_win(best: Tried, s: u64) -> bool
+    ensures { λ r. ⌜ (r ≡ true → (R : ℕ) (p : Path) → s ≤ p .length → shorterOf (foundBy R best) (Shortest p) ≡ foundBy R best) ⌝ }
+{
+    match best {
+        Tried::Exists(way) => way.length <= s,
+        Tried::Absent => false,
+    }
+}
+
+// The shorter of what was found before and a case, from both centres at each end. A bearing is dear, so that of a case that cannot win is
+// not worked out.
+fn better(best: Tried, ends: Ends, from: Centres, to: Centres, case: u8) -> Tried
+    requires { ⌜ IsTried best × (IsEnds ends × ((1 ≤ case) × (case ≤ 4))) ⌝ }
+    requires { ⌜ AreCentres (ends .start) (ends .radius) (ends .leave) from ⌝ }
+    requires { ⌜ AreCentres (ends .end) (ends .radius) (ends .arrive) to ⌝ }
+    ensures { λ r. ⌜ (foundBy (ends .radius) r ≡ shorterOf (foundBy (ends .radius) best) (casePath ends case)) × IsTried r ⌝ }
+{
+    let start = centre_on(from, starts_right(case));
+    let end = centre_on(to, ends_right(case));
+    let circles = circles_at(start, end);
+    let v = circles.v;
+    if tangent_exists(v, ends.radius, case) {
+        let s = straight(v, ends.radius, case);
+        if cannot_win(best, s) {
+            best
+        } else {
+            let course = straight_course(v, s, ends.radius, case);
+            shorter(best, Tried::Exists(way_of(ends, case, circles, s, course)))
+        }
+    } else {
+        best
     }
 }
 
@@ -325,11 +342,11 @@ pub fn shortest_path(ends: Ends) -> Found
     let end = ends.end;
     let from = both_centres(start, ends.radius, ends.leave);
     let to = both_centres(end, ends.radius, ends.arrive);
-    let rsr = case_way(ends, from, to, 1);
-    let rsl = case_way(ends, from, to, 2);
-    let lsr = case_way(ends, from, to, 3);
-    let lsl = case_way(ends, from, to, 4);
-    found_by(shorter(shorter(shorter(rsr, rsl), lsr), lsl), ends.radius)
+    let rsr = better(Tried::Absent, ends, from, to, 1);
+    let rsl = better(rsr, ends, from, to, 2);
+    let lsr = better(rsl, ends, from, to, 3);
+    let lsl = better(lsr, ends, from, to, 4);
+    found_by(lsl, ends.radius)
 }
 
 // Whether any case exists, with no bearing and no root worked out.

@@ -2,6 +2,8 @@
 use mathlib.Core.Path.{_∙_}
 use borrow.Author.Needs.{needs}
 use Rattle.dubins.specs.Choice.{shortestOf}
+use Rattle.dubins.specs.Ways.{foundBy}
+use Rattle.dubins.proofs.ShortestLaws.{only-later}
 use Rattle.dubins.proofs.shortest_path.Statement.{statement}
 use Rattle.dubins.proofs.shortest_path.Tie as tie
 
@@ -11,38 +13,27 @@ both-centres-requires c κs = search needs
 both-centres-requires-2 : tie.Need-both-centres-requires-2
 both-centres-requires-2 c κs = search needs
 
-case-way-requires : tie.Need-case-way-requires
-case-way-requires c κs = search needs
+better-requires : tie.Need-better-requires
+better-requires c κs = search needs
 
-case-way-requires-2 : tie.Need-case-way-requires-2
-case-way-requires-2 c κs = search needs
+better-requires-2 : tie.Need-better-requires-2
+better-requires-2 c κs = search needs
 
-case-way-requires-3 : tie.Need-case-way-requires-3
-case-way-requires-3 c κs = search needs
+better-requires-3 : tie.Need-better-requires-3
+better-requires-3 c κs = search needs
 
-case-way-requires-4 : tie.Need-case-way-requires-4
-case-way-requires-4 c κs = search needs
-
-shorter-requires : tie.Need-shorter-requires
-shorter-requires c κs = search needs
-
-shorter-requires-2 : tie.Need-shorter-requires-2
-shorter-requires-2 c κs = search needs
-
-shorter-requires-3 : tie.Need-shorter-requires-3
-shorter-requires-3 c κs = search needs
+better-requires-4 : tie.Need-better-requires-4
+better-requires-4 c κs = search needs
 
 found-by-requires : tie.Need-found-by-requires
 found-by-requires c κs = search needs
 
 returns : tie.Need-returns
-unfolding shortestOf
+unfolding shortestOf foundBy
 returns c =
-    let s = c .before in
-    let d = s .before .before .before in
-    let R = d .before .before .before .before .before .before .before .before .args .ends .radius in (
+    let d = c .before in (
       c .found-by .ensures .0
-          ∙ simp (s .shorter3 .ensures .0 R, s .before .shorter2 .ensures .0 R, s .before .before .shorter .ensures .0 R, d .case-way4 .ensures .0, d .before .case-way3 .ensures .0, d .before .before .case-way2 .ensures .0, d .before .before .before .case-way .ensures .0),
+          ∙ simp (d .better4 .ensures .0, d .before .better3 .ensures .0, d .before .before .better2 .ensures .0, d .before .before .before .better .ensures .0, only-later),
       c .found-by .ensures .1,
     )
 
@@ -52,12 +43,9 @@ shortest-path-spec =
     (tie.spec
     both-centres-requires
     both-centres-requires-2
-    case-way-requires
-    case-way-requires-2
-    case-way-requires-3
-    case-way-requires-4
-    shorter-requires
-    shorter-requires-2
-    shorter-requires-3
+    better-requires
+    better-requires-2
+    better-requires-3
+    better-requires-4
     found-by-requires
     returns)
