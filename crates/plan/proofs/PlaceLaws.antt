@@ -18,12 +18,15 @@ use Rattle.plan.specs.declared.Mode.{Mode}
 use Rattle.plan.specs.Limits.{mostPoints, courses}
 use Rattle.plan.specs.Places.{noPoint, pointsAt, coursesAt, placeAt, courseAt, padded}
 use Rattle.plan.specs.Rules.{rulesOn}
-use Rattle.plan.specs.Stands.{IsCourse, Placed, Aiming, Counted}
+use Rattle.plan.specs.Stands.{IsCourse, There, Placed, Aiming, Counted}
 
 -- ---- the points around place i
 module _ {ns es ds : List ℤ} {n : ℕ} (h : Counted ns es ds n) (i : ℕ) where
   pub pair-placed : i < n → Placed ns es ds (i - 1) × Placed ns es ds i
   pair-placed l = (h .placed (i - 1) (omega arith), h .placed i l)
+
+  pub pair-there : i < n → There ns es ds (i - 1) × There ns es ds i
+  pair-there l = let p = pair-placed l in (p .0 .there, p .1 .there)
 
   pub corner-placed : i + 1 < n → Placed ns es ds (i - 1) × (Placed ns es ds i × Placed ns es ds (i + 1))
   corner-placed l = (h .placed (i - 1) (omega arith), (h .placed i (omega arith), h .placed (i + 1) l))

@@ -4,14 +4,14 @@ use mathlib.Core.Bool.{Bool, true, false}
 use Prim.Native.Nat.{ℕ, _+_, _-_, _≤_, _<_}
 use native.Mathlib.Omega.{arith}
 use lib.Dec.{eqb, ltb}
-use borrow.Author.Tests.{ltb-false, leb-true, le-leb, lt-leb}
+use borrow.Author.Tests.{eqb-false, ltb-false, leb-true, le-leb, lt-leb}
 use Rattle.integers.specs.Choose.{choose}
 use Rattle.refusals.specs.declared.Refusal.{Refusal}
 use Rattle.refusals.specs.Outcome.{Outcome, good, refused, check, andThen, refusalOf, isGood}
 use Rattle.refusals.specs.Sweep.{Done, done}
 use Rattle.refusals.proofs.Bools.{clash}
 use Rattle.refusals.proofs.OutcomeLaws.{Proper, check-true, check-false, check-first, check-rest, then-good, then-refused, good-first, proper-check, proper-then}
-use Rattle.refusals.proofs.SweepLaws.{sweep-means, sweep-zeros, sweep-done, proper-sweep}
+use Rattle.refusals.proofs.SweepLaws.{sweep-means, sweep-zeros, sweep-done, good-is, proper-sweep}
 use Rattle.plane.specs.declared.Point.{Point}
 use Rattle.fillets.specs.Corners.{turnOf}
 use Rattle.dubins.specs.Choice.{hasPathOf, farApart}
@@ -66,14 +66,14 @@ then-rest (good done) g h = h
 then-rest (refused n p) g h = clash false h refl
 
 module _ (mode : Mode) (R n : ℕ) (at : ℕ → Point) (course : ℕ → ℕ) where
-  pub geometry-pairs : (refusalOf (pairsOf n at) .number ≡ 0 → ⊥) → refusalOf (geometryOn mode R n at course) ≡ refusalOf (pairsOf n at)
-  unfolding geometryOn
-  geometry-pairs h = then-refused _ _ h
-
-  pub geometry-rest : refusalOf (pairsOf n at) .number ≡ 0
-      → geometryOn mode R n at course ≡ andThen (cornersOf mode n at) (λ (_ : Done). legsOf mode R n at course)
+  pub geometry-pairs : isGood (pairsOf n at) ≡ false → refusalOf (geometryOn mode R n at course) ≡ refusalOf (pairsOf n at)
   unfolding geometryOn pairsOf
-  geometry-rest h = then-good _ done _ (sweep-done (pairAt at) (n - 1) 1 h)
+  geometry-pairs h = then-refused _ _ (eqb-false _ 0 (sym (proper-sweep (pairAt at) (n - 1) 1) ∙ h))
+
+  pub geometry-rest : isGood (pairsOf n at) ≡ true
+      → geometryOn mode R n at course ≡ andThen (cornersOf mode n at) (λ (_ : Done). legsOf mode R n at course)
+  unfolding geometryOn
+  geometry-rest h = then-good _ done _ (good-is (pairsOf n at) h)
 
   -- a corner is refused, or the legs are asked
   pub corners-refuse : (r : Refusal) → r ≡ refusalOf (cornersOf mode n at) → (r .number ≡ 0 → ⊥)

@@ -8,7 +8,7 @@ ghost use Prim.Native.Nat.{ℕ, _+_, _-_, _≤_, _<_};
 ghost use lib.Dec.{eqb, ltb};
 ghost use lib.ListN.{length};
 ghost use Rattle.integers.specs.Choose.{choose};
-ghost use Rattle.refusals.specs.Outcome.{andThen, refusalOf};
+ghost use Rattle.refusals.specs.Outcome.{andThen, refusalOf, isGood};
 ghost use Rattle.refusals.specs.Sweep.{Done, every};
 ghost use Rattle.course.specs.Bearing.{bearingOf};
 ghost use Rattle.plane.specs.Area.{InArea};
@@ -176,16 +176,16 @@ fn courses_fit(radius: u16, given: usize, count: usize) -> bool
     given == count
 }
 
-// 10 where two neighbours are equal in north and east.
+// 10 where two neighbours are equal in north and east. No square is taken: the compiler compares several pairs at once.
 fn pair_number(a: Point, b: Point) -> u8
-    requires { ⌜ InArea a × InArea b ⌝ }
     ensures { λ r. ⌜ r ≡ pairNumber a b ⌝ }
 {
-    if plane::squared(plane::level_leg(a, b)) == 0 {
-        refusals::EQUAL_NEIGHBOURS
-    } else {
-        0
+    if a.north == b.north {
+        if a.east == b.east {
+            return refusals::EQUAL_NEIGHBOURS;
+        }
     }
+    0
 }
 
 // 11 where the legs of a plan of lines are exactly opposite at b.
@@ -247,12 +247,28 @@ fn at_place(number: u8, place: usize) -> Refusal
 
 // 10 at the pair whose later point is at place i.
 fn pair_at<'a>(norths: &'a [i32], easts: &'a [i32], downs: &'a [i32], i: usize) -> u8
-    requires { ⌜ (1 ≤ i) × (Placed (now norths) (now easts) (now downs) (i - 1) × Placed (now norths) (now easts) (now downs) i) ⌝ }
+    requires { ⌜ (1 ≤ i) × (There (now norths) (now easts) (now downs) (i - 1) × There (now norths) (now easts) (now downs) i) ⌝ }
     ensures { λ r. ⌜ r ≡ pairAt (placeAt (now (norths .entry)) (now (easts .entry)) (now (downs .entry))) i ⌝ }
 {
     let a = point_at(norths, easts, downs, i - 1);
     let b = point_at(norths, easts, downs, i);
     pair_number(a, b)
+}
+
+// Whether no pair is equal in north and east. Those that are get counted: without a way out of the loop the compiler takes several at once.
+fn all_apart<'a>(norths: &'a [i32], easts: &'a [i32], downs: &'a [i32], n: usize) -> bool
+    requires { ⌜ Counted (now norths) (now easts) (now downs) n × (n ≤ mostPoints) ⌝ }
+    ensures { λ r. ⌜ r ≡ isGood (pairsOf n (placeAt (now (norths .entry)) (now (easts .entry)) (now (downs .entry)))) ⌝ }
+{
+    let mut equal: u32 = 0;
+    let mut i: usize = 1;
+    while i < n {
+        if pair_at(norths, easts, downs, i) != 0 {
+            equal += 1;
+        }
+        i += 1;
+    }
+    equal == 0
 }
 
 // 10 at each pair, by its later point.
@@ -464,7 +480,7 @@ fn corners_and_legs<'a>(
     }
 }
 
-// All pairs, then all corners, then all legs.
+// All pairs, then all corners, then all legs. Which pair is equal is asked only where one is.
 fn geometry<'a>(
     head: Head,
     norths: &'a [i32],
@@ -472,14 +488,13 @@ fn geometry<'a>(
     downs: &'a [i32],
     courses: &'a [i32],
 ) -> Refusal
-    requires { ⌜ Fit (head .radius) (head .count) (now norths) (now easts) (now downs) (now courses) ⌝ }
+    requires { ⌜ Fit (head .radius) (head .count) (now norths) (now easts) (now downs) (now courses) × (head .count ≤ mostPoints) ⌝ }
     ensures { λ r. ⌜ r ≡ refusalOf (geometryOn (head .mode) (head .radius) (head .count) (placeAt (now (norths .entry)) (now (easts .entry)) (now (downs .entry))) (courseAt (now (courses .entry)))) ⌝ }
 {
-    let pair = pairs(norths, easts, downs, head.count);
-    if pair.number == 0 {
+    if all_apart(norths, easts, downs, head.count) {
         return corners_and_legs(head, norths, easts, downs, courses);
     }
-    pair
+    pairs(norths, easts, downs, head.count)
 }
 
 // Refusals 8 to 12 and 17 in their order, of a plan with courses given at so many points.

@@ -1,7 +1,6 @@
 -- `pair_at` reads two neighbours and gives their refusal 10. Assumes nothing.
 use mathlib.Core.Path.{_∙_}
 use Rattle.plan.specs.Rules.{pairNumber}
-use Rattle.plan.proofs.PlaceLaws.{area-at}
 use borrow.Author.Needs.{needs}
 use Rattle.plan.proofs.pair_at.Statement.{statement}
 use Rattle.plan.proofs.pair_at.Tie as tie
@@ -16,9 +15,7 @@ point-at-requires-2 : tie.Need-point-at-requires-2
 point-at-requires-2 c κs = search needs
 
 pair-number-requires : tie.Need-pair-number-requires
-pair-number-requires c κs =
-    let s = c .before .before in
-    (area-at (c .before .point-at .ensures) (s .pre .1 .0), area-at (c .point-at2 .ensures) (s .pre .1 .1))
+pair-number-requires c κs = search needs
 
 returns : tie.Need-returns
 returns c = c .pair-number .ensures ∙ (λ t. pairNumber (c .before .before .point-at .ensures t) (c .before .point-at2 .ensures t))

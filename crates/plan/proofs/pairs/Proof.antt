@@ -1,7 +1,7 @@
 -- `pairs` sweeps the pairs for refusal 10. Assumes nothing.
 use Rattle.plan.specs.Places.{placeAt}
 use Rattle.plan.specs.Rules.{pairAt, pairsOf}
-use Rattle.plan.proofs.PlaceLaws.{pair-placed}
+use Rattle.plan.proofs.PlaceLaws.{pair-there}
 use Rattle.plan.proofs.SweptLaws.{Swept, swept-start, swept-next, swept-hit, swept-stop}
 use native.Mathlib.Omega.{arith}
 use Prim.Native.Nat.{_-_}
@@ -21,7 +21,7 @@ pair-at-requires : tie.Need-pair-at-requires Inv-loop μ-loop
 pair-at-requires c κs =
     let s = c .before .before in
     let l = c .before .loop in
-    (l .inv .low, pair-placed (s .pre) (l .i) (c .loop-test .taken))
+    (l .inv .low, pair-there (s .pre) (l .i) (c .loop-test .taken))
 
 add-i : tie.Need-add-i Inv-loop μ-loop
 add-i c = omega arith

@@ -35,12 +35,14 @@ geometry-requires c κs =
     let b = c .before .before in
     let a = b .before in
     let p = plan (a .before) in
-    let h = a .before .pre in
-    record {
-      counted = record { placed = λ i l. placed-of p (h .0) (h .1 .ranged) i (omega (arith, l, b .if2 .left)); least = a .if1 .left };
-      radius = h .1 .radius;
-      aimed = λ i l. aiming-of p (h .0) (h .1 .aimed) i (omega (arith, l, b .if2 .left));
-    }
+    let h = a .before .pre in (
+      record {
+        counted = record { placed = λ i l. placed-of p (h .0) (h .1 .ranged) i (omega (arith, l, b .if2 .left)); least = a .if1 .left };
+        radius = h .1 .radius;
+        aimed = λ i l. aiming-of p (h .0) (h .1 .aimed) i (omega (arith, l, b .if2 .left));
+      },
+      b .if2 .left,
+    )
 
 returns-3 : tie.Need-returns-3
 returns-3 c =

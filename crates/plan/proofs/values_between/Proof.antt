@@ -6,14 +6,14 @@ use mathlib.Core.Path.{_≡_, refl, sym, _∙_, ap}
 use mathlib.Core.Logic.{inl, inr}
 use mathlib.Core.Bool.{Bool, true, false, not}
 use mathlib.Core.List.{List}
-use Prim.Native.Nat.{ℕ, _+_, _-_, _≤_, _<_}
-use lib.Dec.{eqb}
+use Prim.Native.Nat.{ℕ, _-_, _≤_}
 use lib.IntN.{ℤ}
 use Rattle.refusals.specs.Sweep.{every}
 use Rattle.refusals.proofs.Bools.{both-on}
-use Rattle.refusals.proofs.SweepLaws.{passing, passing-next, passing-all}
+use Rattle.refusals.proofs.SweepLaws.{passing, passing-all}
 use Rattle.plan.specs.Limits.{betweenOf}
 use Rattle.plan.specs.Places.{numberAt}
+use Rattle.plan.proofs.SweptLaws.{counted-next}
 use borrow.Author.Needs.{needs}
 use native.Mathlib.Omega.{arith}
 use Rattle.plan.proofs.values_between.Statement.{statement}
@@ -26,10 +26,6 @@ fits values low high i = betweenOf low high (numberAt values i)
 unnot : (b t : Bool) → not b ≡ t → b ≡ not t
 unnot true t p = ap not p
 unnot false t p = ap not p
-
--- one value more: over by x
-step : (f : ℕ → Bool) (whole : Bool) (over next x to i : ℕ) → next ≡ over + x → x ≤ 1 → i < to → (t : Bool) → f i ≡ t → eqb x 0 ≡ t → (over ≤ i) × (whole ≡ passing f over to i) → (next ≤ i + 1) × (whole ≡ passing f next to (i + 1))
-step f whole over next x to i e l h t p q (b, w) = (omega arith, w ∙ passing-next f over x to i h t p q ∙ ap (λ (m : ℕ). passing f m to (i + 1)) (sym e))
 
 abbrev Inv-loop : tie.InvT-loop
 Inv-loop values from to low high over₀ i₀ over i = (over ≤ i) × (every (fits values low high) (to - from) from ≡ passing (fits values low high) over to i)
@@ -68,8 +64,8 @@ loop-again c =
     let z : toZ w32 (ofZ w32 (numberAt (s .values .now) (l .i))) ≡ numberAt (s .values .now) (l .i) = search needs in
     let e = c .before .between .ensures ∙ ap (betweenOf (s .low) (s .high)) z in
     elim (c .if1 .came) [
-      | inl k ↦ step f whole (l .over) (c .if1 .over) 1 (s .to) (l .i) (k .1) (omega arith) (b .loop-test .taken) false (sym e ∙ unnot (c .before .between .result) true (k .0 .taken)) refl (l .inv)
-      | inr k ↦ step f whole (l .over) (c .if1 .over) 0 (s .to) (l .i) (omega (arith, k .1)) (omega arith) (b .loop-test .taken) true (sym e ∙ unnot (c .before .between .result) false (k .0 .left)) refl (l .inv)
+      | inl k ↦ counted-next f whole (l .over) (c .if1 .over) 1 (s .to) (l .i) (k .1) (omega arith) (b .loop-test .taken) false (sym e ∙ unnot (c .before .between .result) true (k .0 .taken)) refl (l .inv)
+      | inr k ↦ counted-next f whole (l .over) (c .if1 .over) 0 (s .to) (l .i) (omega (arith, k .1)) (omega arith) (b .loop-test .taken) true (sym e ∙ unnot (c .before .between .result) false (k .0 .left)) refl (l .inv)
     ]
 
 returns : tie.Need-returns Inv-loop μ-loop
