@@ -9,10 +9,13 @@ use lib.ListN.{length}
 use Rattle.integers.specs.Choose.{choose}
 use Rattle.refusals.specs.Outcome.{Outcome, isGood}
 use Rattle.refusals.specs.Sweep.{Done, both, every}
+use Rattle.course.specs.Bearing.{bearingOf}
 use Rattle.plane.specs.declared.Point.{Point}
 use Rattle.plane.specs.Area.{InArea}
+use Rattle.plane.specs.Level.{levelLegOf, squareOf}
 use Rattle.fillets.specs.Corners.{turnOf}
 use Rattle.dubins.specs.Choice.{hasPathOf}
+use Rattle.plan.specs.declared.LevelLeg.{LevelLeg}
 use Rattle.plan.specs.declared.Mode.{Mode}
 use Rattle.plan.specs.declared.Mode.the-variants.{Lines, Fillets, Dubins}
 use Rattle.plan.specs.declared.Plan.{Plan}
@@ -87,6 +90,12 @@ pub record There (norths easts downs : List ℤ) (i : ℕ) : Type 0 where
 pub record Placed (norths easts downs : List ℤ) (i : ℕ) : Type 0 where
   pub there : There norths easts downs i
   pub area : InArea (placeAt norths easts downs i)
+
+-- what the leg from a to b is in north and east
+pub record IsLevelLeg (a b : Point) (leg : LevelLeg) : Type 0 where
+  pub bearing : leg .bearing ≡ bearingOf (levelLegOf a b)
+  pub below : leg .bearing < courses
+  pub squared : leg .squared ≡ squareOf (levelLegOf a b)
 
 pub record Aiming (courses : List ℤ) (i : ℕ) : Type 0 where
   pub there : i < length courses

@@ -10,15 +10,16 @@ ghost use lib.ListN.{length};
 ghost use Rattle.integers.specs.Choose.{choose};
 ghost use Rattle.refusals.specs.Outcome.{andThen, refusalOf, isGood};
 ghost use Rattle.refusals.specs.Sweep.{Done, every};
-ghost use Rattle.course.specs.Bearing.{bearingOf};
 ghost use Rattle.plane.specs.Area.{InArea};
-ghost use Rattle.plane.specs.Level.{levelLegOf};
+ghost use Rattle.plane.specs.declared.Point.{Point};
+ghost use Rattle.plane.specs.Level.{levelLegOf, squareOf};
+ghost use Rattle.fillets.specs.Corners.{tangentOf};
 ghost use Rattle.dubins.specs.Limits.{IsEnds};
 ghost use Rattle.plan.specs.declared.Mode.the-variants.{Lines, Fillets, Dubins};
-ghost use Rattle.plan.specs.Limits.{mostPoints, mostRadius, inAreaOf, betweenOf, numberFits, arcRadius, radiusFits};
+ghost use Rattle.plan.specs.Limits.{mostPoints, mostRadius, mostTurn, inAreaOf, betweenOf, numberFits, arcRadius, radiusFits};
 ghost use Rattle.plan.specs.Places.{numberAt, placeAt, courseAt, noCourse, seen};
 ghost use Rattle.plan.specs.Rules.{modeOf, coursesFit, pairNumber, cornerNumber, tangentNumber, endsNumber, atPlace, endsAt, pairAt, cornerAt, pairsOf, cornersOf, legsOf, geometryOn};
-ghost use Rattle.plan.specs.Stands.{givenOf, pointFits, placesFit, rulesOf, standsOf, There, Placed, Aiming, Counted, Fit, Long, Bounded, Stands};
+ghost use Rattle.plan.specs.Stands.{givenOf, pointFits, placesFit, rulesOf, standsOf, There, Placed, IsLevelLeg, Aiming, Counted, Fit, Long, Bounded, Stands};
 
 // The most points of a plan, and the fewest.
 pub const POINTS: usize = 64;
@@ -39,8 +40,10 @@ pub const COURSES: u16 = 4096;
 
 const LAST_COURSE: u32 = COURSES as u32 - 1;
 
-// The greatest turn of a fillet corner.
+// The greatest turn of a fillet corner, and the greatest whose tangent length is at most the radius.
 pub const MOST_TURN: usize = 1792;
+
+const RIGHT_ANGLE: usize = 1024;
 
 pub enum Mode {
     Lines,
@@ -63,6 +66,12 @@ pub struct Plan {
     pub easts: [i32; POINTS],
     pub downs: [i32; POINTS],
     pub courses: [i32; POINTS],
+}
+
+// A leg in north and east: its bearing and its squared length.
+struct LevelLeg {
+    bearing: usize,
+    squared: u64,
 }
 
 // How many numbers the arrays of a plan have, and which stands where when they lie one after another.
@@ -201,15 +210,33 @@ fn line_corner_number(a: Point, b: Point, c: Point) -> u8
 }
 
 // 12 where the tangent lengths of a leg's ends exceed it, asked of the squares: no root is taken. Two tangent lengths are at most 100560.
-fn tangent_number(a: Point, b: Point, tangents: u64) -> u8
-    requires { ⌜ (InArea a × InArea b) × (tangents ≤ 100560) ⌝ }
-    ensures { λ r. ⌜ r ≡ tangentNumber a b tangents ⌝ }
+fn tangent_number(squared: u64, tangents: u64) -> u8
+    requires { ⌜ tangents ≤ 100560 ⌝ }
+    ensures { λ r. ⌜ ((a b : Point) → squared ≡ squareOf (levelLegOf a b) → r ≡ tangentNumber a b tangents) ⌝ }
 {
-    if tangents * tangents <= plane::squared(plane::level_leg(a, b)) {
+    if tangents * tangents <= squared {
         0
     } else {
         refusals::SHORT_LEG
     }
+}
+
+// 12 of a leg with these turns at its ends. Up to a right angle a tangent length is at most the radius: so few legs need theirs worked out.
+fn turns_number(squared: u64, radius: u64, before: usize, after: usize) -> u8
+    requires { ⌜ (radius ≤ mostRadius) × ((before ≤ mostTurn) × (after ≤ mostTurn)) ⌝ }
+    ensures { λ r. ⌜ ((a b : Point) → squared ≡ squareOf (levelLegOf a b) → r ≡ tangentNumber a b (tangentOf radius before + tangentOf radius after)) ⌝ }
+{
+    let most = 2 * radius;
+    if most * most <= squared {
+        if before <= RIGHT_ANGLE {
+            if after <= RIGHT_ANGLE {
+                return 0;
+            }
+        }
+    }
+    let first = fillets::tangent_length(radius, before);
+    let second = fillets::tangent_length(radius, after);
+    tangent_number(squared, first + second)
 }
 
 // 12 where the ends of a Dubins leg are too close, and then 17 where it has no case. Ends that are far enough apart always have one, except where
@@ -330,45 +357,39 @@ fn line_corners<'a>(norths: &'a [i32], easts: &'a [i32], downs: &'a [i32], n: us
 }
 
 // What the legs before have found, or else 12 of the next leg.
-fn leg_found(found: Refusal, a: Point, b: Point, tangents: u64, place: usize) -> Refusal
-    requires { ⌜ (InArea a × InArea b) × (tangents ≤ 100560) ⌝ }
-    ensures { λ r. ⌜ r ≡ choose (eqb (found .number) 0) (refusalOf (atPlace (tangentNumber a b tangents) place)) found ⌝ }
+fn leg_found(
+    found: Refusal,
+    squared: u64,
+    radius: u64,
+    before: usize,
+    after: usize,
+    place: usize,
+) -> Refusal
+    requires { ⌜ (radius ≤ mostRadius) × ((before ≤ mostTurn) × (after ≤ mostTurn)) ⌝ }
+    ensures { λ r. ⌜ ((a b : Point) → squared ≡ squareOf (levelLegOf a b) → r ≡ choose (eqb (found .number) 0) (refusalOf (atPlace (tangentNumber a b (tangentOf radius before + tangentOf radius after)) place)) found) ⌝ }
 {
     if found.number == 0 {
-        return at_place(tangent_number(a, b, tangents), place);
+        return at_place(turns_number(squared, radius, before, after), place);
     }
     found
 }
 
-// The bearing of the leg that starts at place i.
-fn bearing_at<'a>(norths: &'a [i32], easts: &'a [i32], downs: &'a [i32], i: usize) -> usize
+// The leg that starts at place i.
+fn level_leg_at<'a>(norths: &'a [i32], easts: &'a [i32], downs: &'a [i32], i: usize) -> LevelLeg
     requires { ⌜ Placed (now norths) (now easts) (now downs) i × Placed (now norths) (now easts) (now downs) (i + 1) ⌝ }
-    ensures { λ r. ⌜ (r ≡ bearingOf (levelLegOf (placeAt (now (norths .entry)) (now (easts .entry)) (now (downs .entry)) i) (placeAt (now (norths .entry)) (now (easts .entry)) (now (downs .entry)) (i + 1)))) × (r < 4096) ⌝ }
+    ensures { λ r. ⌜ IsLevelLeg (placeAt (now (norths .entry)) (now (easts .entry)) (now (downs .entry)) i) (placeAt (now (norths .entry)) (now (easts .entry)) (now (downs .entry)) (i + 1)) r ⌝ }
 {
     let a = point_at(norths, easts, downs, i);
     let b = point_at(norths, easts, downs, i + 1);
-    course::bearing(plane::level_leg(a, b))
+    let leg = plane::level_leg(a, b);
+    let bearing = course::bearing(leg);
+    let squared = plane::squared(leg);
+    LevelLeg { bearing, squared }
 }
 
-// What the legs before have found, or else 12 of the leg that ends at place i.
-fn leg_found_at<'a>(
-    norths: &'a [i32],
-    easts: &'a [i32],
-    downs: &'a [i32],
-    i: usize,
-    tangents: u64,
-    found: Refusal,
-) -> Refusal
-    requires { ⌜ (1 ≤ i) × ((Placed (now norths) (now easts) (now downs) (i - 1) × Placed (now norths) (now easts) (now downs) i) × (tangents ≤ 100560)) ⌝ }
-    ensures { λ r. ⌜ r ≡ choose (eqb (found .number) 0) (refusalOf (atPlace (tangentNumber (placeAt (now (norths .entry)) (now (easts .entry)) (now (downs .entry)) (i - 1)) (placeAt (now (norths .entry)) (now (easts .entry)) (now (downs .entry)) i) tangents) (i + 1))) found ⌝ }
-{
-    let a = point_at(norths, easts, downs, i - 1);
-    let b = point_at(norths, easts, downs, i);
-    leg_found(found, a, b, tangents, i + 1)
-}
-
-// 11 at each corner, and then 12 at each leg of a fillet plan by its end point, in one pass: the bearing of each leg and the tangent length
-// of each corner are worked out once and carried along. What a leg finds waits until all corners have passed. The last point has no tangent.
+// 11 at each corner, and then 12 at each leg of a fillet plan by its end point, in one pass: each leg and the turn at each corner are worked out
+// once and carried along. What a leg finds waits until all corners have passed. The first and the last point count as turns of 0, which have no
+// tangent length.
 fn fillet_rules<'a>(
     norths: &'a [i32],
     easts: &'a [i32],
@@ -380,29 +401,28 @@ fn fillet_rules<'a>(
     ensures { λ r. ⌜ r ≡ refusalOf (andThen (cornersOf Fillets n (placeAt (now (norths .entry)) (now (easts .entry)) (now (downs .entry)))) (λ (_ : Done). legsOf Fillets radius n (placeAt (now (norths .entry)) (now (easts .entry)) (now (downs .entry))) noCourse)) ⌝ }
 {
     let last = n - 1;
-    let mut before = bearing_at(norths, easts, downs, 0);
-    let mut carried: u64 = 0;
+    let mut leg = level_leg_at(norths, easts, downs, 0);
+    let mut before: usize = 0;
     let mut found = Refusal {
         number: 0,
         place: 0,
     };
     let mut i: usize = 1;
     while i < last {
-        let after = bearing_at(norths, easts, downs, i);
-        let turn = fillets::lesser_turn(before, after);
+        let next = level_leg_at(norths, easts, downs, i);
+        let turn = fillets::lesser_turn(leg.bearing, next.bearing);
         if MOST_TURN < turn {
             return Refusal {
                 number: refusals::SHARP_CORNER,
                 place: i + 1,
             };
         }
-        let tangent = fillets::tangent_length(radius, turn);
-        found = leg_found_at(norths, easts, downs, i, carried + tangent, found);
-        carried = tangent;
-        before = after;
+        found = leg_found(found, leg.squared, radius, before, turn, i + 1);
+        before = turn;
+        leg = next;
         i += 1;
     }
-    leg_found_at(norths, easts, downs, last, carried, found)
+    leg_found(found, leg.squared, radius, before, 0, n)
 }
 
 // 12 and 17 of the leg of a Dubins plan that ends at place i.

@@ -1,39 +1,39 @@
 -- `fillet_rules` sweeps the corners of a fillet plan for refusal 11 and then its legs for 12, in one pass. Assumes nothing.
 use Prim.Native.Nat.{_-_}
 use Rattle.plan.specs.Places.{placeAt, noCourse}
-use Rattle.plan.proofs.PlaceLaws.{pair-placed, corner-placed}
+use Rattle.plan.proofs.PlaceLaws.{corner-placed}
 use Rattle.plan.proofs.FilletLegLaws.{Carried, carried-start, carried-next, corner-refused, last-answer}
 use native.Mathlib.Omega.{arith}
 use Rattle.plan.proofs.fillet_rules.Statement.{statement}
 use Rattle.plan.proofs.fillet_rules.Tie as tie
 
 abbrev Inv-loop : tie.InvT-loop
-Inv-loop norths easts downs n radius last before₀ carried₀ found₀ i₀ before carried found i = Carried radius n (placeAt norths easts downs) noCourse i before carried found
+Inv-loop norths easts downs n radius last leg₀ before₀ found₀ i₀ leg before found i = Carried radius n (placeAt norths easts downs) noCourse i before leg found
 
 abbrev μ-loop : tie.MeasureT-loop
-μ-loop norths easts downs n radius last before₀ carried₀ found₀ i₀ before carried found i = n - 1 - i
+μ-loop norths easts downs n radius last leg₀ before₀ found₀ i₀ leg before found i = n - 1 - i
 
 sub-last : tie.Need-sub-last Inv-loop μ-loop
 sub-last c = omega arith
 
-bearing-at-requires : tie.Need-bearing-at-requires Inv-loop μ-loop
-bearing-at-requires c κs = let k = c .pre .0 in (k .placed 0 (omega (arith, k .least)), k .placed 1 (omega (arith, k .least)))
+level-leg-at-requires : tie.Need-level-leg-at-requires Inv-loop μ-loop
+level-leg-at-requires c κs = let k = c .pre .0 in (k .placed 0 (omega (arith, k .least)), k .placed 1 (omega (arith, k .least)))
 
 loop-holds : tie.Need-loop-holds Inv-loop μ-loop
 loop-holds c =
     let s = c .before in
-    carried-start (s .args .radius) (s .args .n) (placeAt (s .args .norths .now) (s .args .easts .now) (s .args .downs .now)) noCourse (c .bearing-at .result) (omega (arith, s .pre .0 .least)) (c .bearing-at .ensures .0) (c .bearing-at .ensures .1)
+    carried-start (s .args .radius) (s .args .n) (placeAt (s .args .norths .now) (s .args .easts .now) (s .args .downs .now)) noCourse (c .level-leg-at .result) (omega (arith, s .pre .0 .least)) (c .level-leg-at .ensures)
 
-bearing-at-requires-2 : tie.Need-bearing-at-requires-2 Inv-loop μ-loop
-bearing-at-requires-2 c κs =
+level-leg-at-requires-2 : tie.Need-level-leg-at-requires-2 Inv-loop μ-loop
+level-leg-at-requires-2 c κs =
     let s = c .before .before .before in
     corner-placed (s .pre .0) (c .before .loop .i) (omega (arith, c .loop-test .taken)) .1
 
 lesser-turn-requires : tie.Need-lesser-turn-requires Inv-loop μ-loop
-lesser-turn-requires c κs = (c .before .before .loop .inv .below, c .bearing-at2 .ensures .1)
+lesser-turn-requires c κs = (c .before .before .loop .inv .level .below, c .level-leg-at2 .ensures .below)
 
-add-t15 : tie.Need-add-t15 Inv-loop μ-loop
-add-t15 c = omega arith
+add-t14 : tie.Need-add-t14 Inv-loop μ-loop
+add-t14 c = omega arith
 
 returns : tie.Need-returns Inv-loop μ-loop
 returns c =
@@ -42,23 +42,16 @@ returns c =
     let b = k .before in
     let l = b .before .loop in
     let s = b .before .before .before .args in
-    corner-refused (s .radius) (s .n) (placeAt (s .norths .now) (s .easts .now) (s .downs .now)) noCourse (l .i) (l .before) (l .carried) (k .bearing-at2 .result) (u .lesser-turn .result) (l .found) (l .inv)
-    (omega (arith, b .loop-test .taken)) (k .bearing-at2 .ensures .0) (u .lesser-turn .ensures .0) (c .if1 .taken)
+    corner-refused (s .radius) (s .n) (placeAt (s .norths .now) (s .easts .now) (s .downs .now)) noCourse (l .i) (l .before) (u .lesser-turn .result) (l .leg) (k .level-leg-at2 .result) (l .found) (l .inv)
+    (omega (arith, b .loop-test .taken)) (k .level-leg-at2 .ensures) (u .lesser-turn .ensures .0) (c .if1 .taken)
 
-tangent-length-requires : tie.Need-tangent-length-requires Inv-loop μ-loop
-tangent-length-requires c κs = let s = c .before .before .before .before .before .before in (s .pre .1, c .if1 .left)
+add-leg-found : tie.Need-add-leg-found Inv-loop μ-loop
+add-leg-found c = omega arith
 
-add-leg-found-at : tie.Need-add-leg-found-at Inv-loop μ-loop
-add-leg-found-at c =
-    let l = c .before .before .before .before .before .loop in
-    omega (arith, l .inv .low, c .tangent-length .ensures .1)
-
-leg-found-at-requires : tie.Need-leg-found-at-requires Inv-loop μ-loop
-leg-found-at-requires c κs =
-    let b = c .before .before .before .before in
-    let l = b .before .loop in
-    let s = b .before .before .before in
-    (l .inv .corners .low, (pair-placed (s .pre .0) (l .i) (l .inv .inside), omega (arith, l .inv .low, c .tangent-length .ensures .1)))
+leg-found-requires : tie.Need-leg-found-requires Inv-loop μ-loop
+leg-found-requires c κs =
+    let l = c .before .before .before .before in
+    (l .before .before .pre .1, (l .loop .inv .low, c .if1 .left))
 
 add-i : tie.Need-add-i Inv-loop μ-loop
 add-i c = omega arith
@@ -68,28 +61,29 @@ loop-less c = omega arith
 
 loop-again : tie.Need-loop-again Inv-loop μ-loop
 loop-again c =
-    let t = c .before .tangent-length in
-    let u = c .before .before .before in
+    let u = c .before .before in
     let k = u .before in
     let b = k .before in
     let l = b .before .loop in
     let s = b .before .before .before .args in
-    carried-next (s .radius) (s .n) (placeAt (s .norths .now) (s .easts .now) (s .downs .now)) noCourse (l .i) (l .before) (l .carried) (k .bearing-at2 .result) (u .lesser-turn .result) (l .found) (l .inv)
-    (omega (arith, b .loop-test .taken)) (k .bearing-at2 .ensures .0) (u .lesser-turn .ensures .0) (t .result) (c .leg-found-at .result) (t .ensures .0) (c .leg-found-at .ensures)
-    (c .before .before .if1 .left) (k .bearing-at2 .ensures .1) (t .ensures .1)
+    let at = placeAt (s .norths .now) (s .easts .now) (s .downs .now) in
+    carried-next (s .radius) (s .n) at noCourse (l .i) (l .before) (u .lesser-turn .result) (l .leg) (k .level-leg-at2 .result) (l .found) (l .inv)
+    (omega (arith, b .loop-test .taken)) (k .level-leg-at2 .ensures) (u .lesser-turn .ensures .0) (c .leg-found .result)
+    (c .leg-found .ensures (at (l .i - 1)) (at (l .i)) (l .inv .level .squared)) (c .before .if1 .left)
 
-leg-found-at-requires-2 : tie.Need-leg-found-at-requires-2 Inv-loop μ-loop
-leg-found-at-requires-2 c κs =
-    let l = c .before .loop in
-    let s = c .before .before .before in
-    (omega (arith, s .pre .0 .least), (pair-placed (s .pre .0) (s .args .n - 1) (omega (arith, s .pre .0 .least)), omega (arith, l .inv .low)))
+leg-found-requires-2 : tie.Need-leg-found-requires-2 Inv-loop μ-loop
+leg-found-requires-2 c κs =
+    let l = c .before in
+    (l .before .before .pre .1, (l .loop .inv .low, omega arith))
 
 returns-2 : tie.Need-returns-2 Inv-loop μ-loop
 returns-2 c =
     let b = c .before in
     let l = b .before .loop in
     let s = b .before .before .before .args in
-    last-answer (s .radius) (s .n) (placeAt (s .norths .now) (s .easts .now) (s .downs .now)) noCourse (l .i) (l .before) (l .carried) (l .found) (c .leg-found-at2 .result) (l .inv) (omega (arith, b .loop-test .left)) (c .leg-found-at2 .ensures)
+    let at = placeAt (s .norths .now) (s .easts .now) (s .downs .now) in
+    last-answer (s .radius) (s .n) at noCourse (l .i) (l .before) (l .leg) (l .found) (c .leg-found2 .result) (l .inv) (omega (arith, b .loop-test .left))
+    (c .leg-found2 .ensures (at (l .i - 1)) (at (l .i)) (l .inv .level .squared))
 
 pub fillet-rules-spec : {M : Type 1} → statement M
 fillet-rules-spec =
@@ -98,17 +92,16 @@ fillet-rules-spec =
     Inv-loop
     μ-loop
     sub-last
-    bearing-at-requires
+    level-leg-at-requires
     loop-holds
-    bearing-at-requires-2
+    level-leg-at-requires-2
     lesser-turn-requires
-    add-t15
+    add-t14
     returns
-    tangent-length-requires
-    add-leg-found-at
-    leg-found-at-requires
+    add-leg-found
+    leg-found-requires
     add-i
     loop-less
     loop-again
-    leg-found-at-requires-2
+    leg-found-requires-2
     returns-2)

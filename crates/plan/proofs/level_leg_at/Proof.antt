@@ -1,11 +1,11 @@
--- `bearing_at` reads two points and takes the bearing between them. Assumes nothing.
+-- `level_leg_at` reads two points and takes the bearing and the squared length between them. Assumes nothing.
 use mathlib.Core.Path.{ap, _∙_}
 use Rattle.course.specs.Bearing.{bearingOf}
-use Rattle.plane.specs.Level.{levelLegOf}
+use Rattle.plane.specs.Level.{levelLegOf, squareOf}
 use Rattle.plan.proofs.PlaceLaws.{area-at}
 use borrow.Author.Needs.{needs}
-use Rattle.plan.proofs.bearing_at.Statement.{statement}
-use Rattle.plan.proofs.bearing_at.Tie as tie
+use Rattle.plan.proofs.level_leg_at.Statement.{statement}
+use Rattle.plan.proofs.level_leg_at.Tie as tie
 
 point-at-requires : tie.Need-point-at-requires
 point-at-requires c κs = search needs
@@ -24,14 +24,23 @@ level-leg-requires c κs =
 bearing-requires : tie.Need-bearing-requires
 bearing-requires c κs = search needs
 
+squared-requires : tie.Need-squared-requires
+squared-requires c κs = search needs
+
 returns : tie.Need-returns
 returns c =
-    let v = c .before in
+    let b = c .before .bearing .ensures in
+    let v = c .before .before in
     let q = v .before in
-    (c .bearing .ensures .value ∙ ap bearingOf (v .level-leg .ensures .0 ∙ (λ t. levelLegOf (q .before .point-at .ensures t) (q .point-at2 .ensures t))), c .bearing .ensures .low)
+    let e = v .level-leg .ensures .0 ∙ (λ t. levelLegOf (q .before .point-at .ensures t) (q .point-at2 .ensures t)) in
+    record {
+      bearing = b .value ∙ ap bearingOf e;
+      below = b .low;
+      squared = c .squared .ensures .0 ∙ ap squareOf e;
+    }
 
-pub bearing-at-spec : {M : Type 1} → statement M
-bearing-at-spec =
+pub level-leg-at-spec : {M : Type 1} → statement M
+level-leg-at-spec =
     tie.close
     (tie.spec
     point-at-requires
@@ -39,4 +48,5 @@ bearing-at-spec =
     point-at-requires-2
     level-leg-requires
     bearing-requires
+    squared-requires
     returns)
