@@ -1201,7 +1201,7 @@ fn near_arc(low: f64, high: f64) -> f64 {
 }
 
 // Near the last edge that (a, b) has reached. A guess, that `edges_reached` tests; only its range is promised. 2^52 - 1/2 is added to have the
-// whole number in the last bits.
+// whole number in the last bits, and 1/32 so that a vector at an edge or nearly, as along a strip of a whole unit, is not guessed one short of it.
 fn near_edge(a: u64, b: u64) -> usize
     requires { ⌜ (a < 2 ^ 48) × (b < 2 ^ 48) ⌝ }
     ensures { λ r. ⌜ (1 ≤ r) × (r ≤ 1022) ⌝ }
@@ -1209,9 +1209,9 @@ fn near_edge(a: u64, b: u64) -> usize
     let x = (a as i64) as f64;
     let y = (b as i64) as f64;
     let arc = if b <= a {
-        near_arc(y, x)
+        near_arc(y, x) + 0.03125
     } else {
-        1024.0 - near_arc(x, y)
+        1024.03125 - near_arc(x, y)
     };
     let edge = (integers::bits_of(arc + 4503599627370495.5) % 2048) as usize;
     if edge < 1 {
