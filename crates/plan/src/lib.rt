@@ -40,10 +40,11 @@ pub const COURSES: u16 = 4096;
 
 const LAST_COURSE: u32 = COURSES as u32 - 1;
 
-// The greatest turn of a fillet corner, and the greatest whose tangent length is at most the radius.
+// The greatest turn of a fillet corner, and the greatest whose tangent length is at most 5/4 of the radius: a little above a right angle, since
+// the corners of a survey come out some units above or below one.
 pub const MOST_TURN: usize = 1792;
 
-const RIGHT_ANGLE: usize = 1024;
+const EASY_TURN: usize = 1168;
 
 pub enum Mode {
     Lines,
@@ -221,15 +222,15 @@ fn tangent_number(squared: u64, tangents: u64) -> u8
     }
 }
 
-// 12 of a leg with these turns at its ends. Up to a right angle a tangent length is at most the radius: so few legs need theirs worked out.
+// 12 of a leg with these turns at its ends. Two tangent lengths of easy turns are at most 5/2 of the radius: so few legs need theirs worked out.
 fn turns_number(squared: u64, radius: u64, before: usize, after: usize) -> u8
     requires { ⌜ (radius ≤ mostRadius) × ((before ≤ mostTurn) × (after ≤ mostTurn)) ⌝ }
     ensures { λ r. ⌜ ((a b : Point) → squared ≡ squareOf (levelLegOf a b) → r ≡ tangentNumber a b (tangentOf radius before + tangentOf radius after)) ⌝ }
 {
-    let most = 2 * radius;
+    let most = 5 * radius / 2;
     if most * most <= squared {
-        if before <= RIGHT_ANGLE {
-            if after <= RIGHT_ANGLE {
+        if before <= EASY_TURN {
+            if after <= EASY_TURN {
                 return 0;
             }
         }

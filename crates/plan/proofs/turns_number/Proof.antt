@@ -1,11 +1,11 @@
--- `turns_number` gives refusal 12 of a leg from the turns at its ends, with no tangent length where two right angles would fit. Assumes nothing.
+-- `turns_number` gives refusal 12 of a leg from the turns at its ends, with no tangent length where two easy turns would fit. Assumes nothing.
 use mathlib.Core.Path.{_∙_}
 use native.Mathlib.Nat.{mul-le-mul}
 use native.Mathlib.Omega.{arith}
-use Prim.Native.Nat.{_+_, _*_, _≤_}
+use Prim.Native.Nat.{_+_, _*_, _/_, _≤_}
 use borrow.Author.Needs.{needs}
 use Rattle.plan.specs.Rules.{tangentNumber}
-use Rattle.plan.proofs.TangentNumberLaws.{right-passes}
+use Rattle.plan.proofs.TangentNumberLaws.{easy-passes}
 use Rattle.plan.proofs.turns_number.Statement.{statement}
 use Rattle.plan.proofs.turns_number.Tie as tie
 
@@ -14,13 +14,13 @@ mul-most c = search needs
 
 mul-if1 : tie.Need-mul-if1
 mul-if1 c =
-    let h : 2 * c .args .radius ≤ 20000 = omega (arith, c .pre .0) in
+    let h : 5 * c .args .radius / 2 ≤ 25000 = omega (arith, c .pre .0) in
     omega (arith, mul-le-mul h h)
 
 returns : tie.Need-returns
 returns c =
     let s = c .before .before .before .args in
-    λ a b e. right-passes a b (s .squared) (s .radius) (s .before) (s .after) e (c .before .if2 .taken) (c .if3 .taken) (c .before .before .if1 .taken)
+    λ a b e. easy-passes a b (s .squared) (s .radius) (s .before) (s .after) e (c .before .if2 .taken) (c .if3 .taken) (c .before .before .if1 .taken)
 
 tangent-length-requires : tie.Need-tangent-length-requires
 tangent-length-requires c κs = search needs
