@@ -3,8 +3,7 @@
  * rt staticlib autopilot    writes target/staticlib/libautopilot.a: load, fix and write
  * rt staticlib desk         writes target/staticlib/libdesk.a: the refusal number of a file, and its notes
  *
- * Both are for x86-64 under Linux, by the System V calling convention. They need memcpy and memset, as the C library has them, and no other
- * symbol.
+ * Both are for x86-64 under Linux, by the System V calling convention. They need memset, as the C library has it, and no other symbol.
  *
  * Every function answers a refusal number, 0 for none, whatever it is given; farnkuppel_interface alone answers something else. It reads and
  * writes the memory that it is lent, up to the lengths that it is told, and no other; it keeps nothing between calls and uses no heap. What each
@@ -55,14 +54,14 @@ extern "C" {
 #define FARNKUPPEL_FIX_LEVEL 50000
 #define FARNKUPPEL_FIX_DOWN 10000
 
-/* The stack that a call takes at the most, in bytes, whatever the plan: with its return address and those of memcpy and memset, but without what
- * these two take for themselves. An argument that the caller puts on the stack counts as the caller's. tests/stack works the numbers out. */
+/* The stack that a call takes at the most, in bytes, whatever the plan: with its return address and that of memset, but without what memset takes
+ * for itself. An argument that the caller puts on the stack counts as the caller's. tests/stack works the numbers out. */
 #define FARNKUPPEL_STACK_INTERFACE 8
-#define FARNKUPPEL_STACK_LOAD 512
-#define FARNKUPPEL_STACK_FIX 1344
-#define FARNKUPPEL_STACK_WRITE 576
-#define FARNKUPPEL_STACK_REFUSAL 1360
-#define FARNKUPPEL_STACK_NOTE 1392
+#define FARNKUPPEL_STACK_LOAD 560
+#define FARNKUPPEL_STACK_FIX 1328
+#define FARNKUPPEL_STACK_WRITE 624
+#define FARNKUPPEL_STACK_REFUSAL 1440
+#define FARNKUPPEL_STACK_NOTE 1472
 
 /* ---- refusals */
 

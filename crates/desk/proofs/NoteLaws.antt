@@ -8,6 +8,7 @@ use lib.ListN.{length}
 use borrow.Author.Tests.{eqb-true, leb-true}
 use Rattle.integers.specs.Choose.{choose}
 use Rattle.integers.proofs.ChooseLaws.{choose-true, choose-false}
+use Rattle.refusals.specs.Numbers.{noVersion}
 use Rattle.refusals.specs.Outcome.{Outcome, good, refused, isGood}
 use Rattle.refusals.specs.Sweep.{both}
 use Rattle.refusals.proofs.Bools.{by-bool, clash, both-first, both-second}
@@ -64,7 +65,7 @@ good-state (refused n p) h = clash false h refl
 parts-good : (f : List ℕ) (s : State) → loadOf newest f ≡ good s → (a : Parts) × (partsOf newest f ≡ good a)
 unfolding loadOf bodyOf
 parts-good f s h =
-    let x = then-means _ _ s (then-means _ _ s (check-means _ 3 _ s h .1) .1 .1) in
+    let x = then-means _ _ s (then-means _ _ s (check-means _ noVersion _ s h .1) .1 .1) in
     (x .0, x .1 .0)
 
 loaded-short : (f : List ℕ) (n : ℕ) → isGood (loadOf newest f) ≡ true → length (noteIn n (recordsOf f)) ≤ mostNote

@@ -9,6 +9,7 @@ use native.Mathlib.Omega.{arith}
 use lib.Dec.{leb, ltb, eqb}
 use lib.ListN.{length, drop, length-drop}
 use borrow.Author.Tests.{ltb-true, leb-true, eqb-true}
+use Rattle.refusals.specs.Numbers.{fileTooShort, noMark, noVersion, noSerial, wrongArea}
 use Rattle.refusals.specs.Outcome.{good}
 use Rattle.refusals.specs.Sweep.{done}
 use Rattle.refusals.proofs.Bools.{both-first, both-second}
@@ -30,11 +31,11 @@ module _ (f : List ℕ) (passed : headerOf f ≡ good done) where
   last-tests : (ltb 0 (serialOf f) ≡ true) × (areaFits f ≡ true)
   unfolding headerOf
   last-tests =
-      let a = check-means _ 1 _ done passed in
-      let b = check-means _ 2 _ done (a .1) in
-      let c = check-means _ 3 _ done (b .1) in
-      let d = check-means _ 4 _ done (c .1) in
-      (d .0, check-means _ 5 _ done (d .1) .0)
+      let a = check-means _ fileTooShort _ done passed in
+      let b = check-means _ noMark _ done (a .1) in
+      let c = check-means _ noVersion _ done (b .1) in
+      let d = check-means _ noSerial _ done (c .1) in
+      (d .0, check-means _ wrongArea _ done (d .1) .0)
 
   serial-some : serialOf f ≡ 0 → ⊥
   serial-some e = omega (arith, ltb-true 0 (serialOf f) (last-tests .0))

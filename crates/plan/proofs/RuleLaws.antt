@@ -6,6 +6,7 @@ use native.Mathlib.Omega.{arith}
 use lib.Dec.{eqb, ltb}
 use borrow.Author.Tests.{eqb-false, ltb-false, leb-true, le-leb, lt-leb}
 use Rattle.integers.specs.Choose.{choose}
+use Rattle.refusals.specs.Numbers.{pointCount, courseCount}
 use Rattle.refusals.specs.declared.Refusal.{Refusal}
 use Rattle.refusals.specs.Outcome.{Outcome, good, refused, check, andThen, refusalOf, isGood}
 use Rattle.refusals.specs.Sweep.{Done, done}
@@ -120,28 +121,28 @@ pub record Passed (mode : Mode) (R given n : ℕ) (at : ℕ → Point) (course :
   pub legs : isGood (legsOf mode R n at course) ≡ true
 
 module _ (mode : Mode) (R given n : ℕ) (at : ℕ → Point) (course : ℕ → ℕ) where
-  pub rules-few : n < fewestPoints → rulesOn mode R given n at course ≡ refused 8 0
+  pub rules-few : n < fewestPoints → rulesOn mode R given n at course ≡ refused pointCount 0
   unfolding rulesOn
-  rules-few h = check-false _ 8 _ (lt-leb fewestPoints n h)
+  rules-few h = check-false _ pointCount _ (lt-leb fewestPoints n h)
 
-  pub rules-many : fewestPoints ≤ n → mostPoints < n → rulesOn mode R given n at course ≡ refused 8 0
+  pub rules-many : fewestPoints ≤ n → mostPoints < n → rulesOn mode R given n at course ≡ refused pointCount 0
   unfolding rulesOn
-  rules-many h k = check-true _ 8 _ (le-leb fewestPoints n h) ∙ check-false _ 8 _ (lt-leb n mostPoints k)
+  rules-many h k = check-true _ pointCount _ (le-leb fewestPoints n h) ∙ check-false _ pointCount _ (lt-leb n mostPoints k)
 
   counted : fewestPoints ≤ n → n ≤ mostPoints → rulesOn mode R given n at course ≡ check (coursesFit R given n) 9 (geometryOn mode R n at course)
   unfolding rulesOn
-  counted h k = check-true _ 8 _ (le-leb fewestPoints n h) ∙ check-true _ 8 _ (le-leb n mostPoints k)
+  counted h k = check-true _ pointCount _ (le-leb fewestPoints n h) ∙ check-true _ pointCount _ (le-leb n mostPoints k)
 
-  pub rules-courses : fewestPoints ≤ n → n ≤ mostPoints → coursesFit R given n ≡ false → rulesOn mode R given n at course ≡ refused 9 0
-  rules-courses h k f = counted h k ∙ check-false _ 9 _ f
+  pub rules-courses : fewestPoints ≤ n → n ≤ mostPoints → coursesFit R given n ≡ false → rulesOn mode R given n at course ≡ refused courseCount 0
+  rules-courses h k f = counted h k ∙ check-false _ courseCount _ f
 
   pub rules-geometry : fewestPoints ≤ n → n ≤ mostPoints → coursesFit R given n ≡ true → rulesOn mode R given n at course ≡ geometryOn mode R n at course
-  rules-geometry h k t = counted h k ∙ check-true _ 9 _ t
+  rules-geometry h k t = counted h k ∙ check-true _ courseCount _ t
 
   -- no refusal has the number 0
   pub rules-proper : Proper (rulesOn mode R given n at course)
   unfolding rulesOn
-  rules-proper = proper-check _ 8 _ refl (proper-check _ 8 _ refl (proper-check _ 9 _ refl (proper-geometry mode R n at course)))
+  rules-proper = proper-check _ pointCount _ refl (proper-check _ pointCount _ refl (proper-check _ courseCount _ refl (proper-geometry mode R n at course)))
 
   pub rules-clean : refusalOf (rulesOn mode R given n at course) .number ≡ 0 → isGood (rulesOn mode R given n at course) ≡ true
   rules-clean h = rules-proper ∙ ap (λ (k : ℕ). eqb k 0) h
@@ -149,14 +150,14 @@ module _ (mode : Mode) (R given n : ℕ) (at : ℕ → Point) (course : ℕ → 
   pub rules-passed : isGood (rulesOn mode R given n at course) ≡ true → Passed mode R given n at course
   unfolding rulesOn geometryOn
   rules-passed h =
-      let a = check-rest _ 8 _ h in
-      let b = check-rest _ 8 _ a in
-      let g = check-rest _ 9 _ b in
+      let a = check-rest _ pointCount _ h in
+      let b = check-rest _ pointCount _ a in
+      let g = check-rest _ courseCount _ b in
       let k = then-rest _ _ g in
       record {
-        least = leb-true fewestPoints n (check-first _ 8 _ h);
-        most = leb-true n mostPoints (check-first _ 8 _ a);
-        courses = check-first _ 9 _ b;
+        least = leb-true fewestPoints n (check-first _ pointCount _ h);
+        most = leb-true n mostPoints (check-first _ pointCount _ a);
+        courses = check-first _ courseCount _ b;
         pairs = good-first _ _ g;
         corners = good-first _ _ k;
         legs = then-rest _ _ k;

@@ -7,6 +7,7 @@ use Prim.Native.Nat.{ℕ, _+_, _-_, _≤_}
 use native.Mathlib.Omega.{arith}
 use lib.ListN.{length, drop}
 use borrow.Author.Tests.{le-leb, lt-ltb, eq-eqb}
+use Rattle.refusals.specs.Numbers.{fileTooShort, noMark, noVersion, noSerial, wrongArea}
 use Rattle.refusals.specs.Outcome.{good}
 use Rattle.refusals.specs.Sweep.{done, both}
 use Rattle.refusals.proofs.Bools.{both-true}
@@ -56,11 +57,11 @@ module _ (version serial : ℕ) (area : List ℕ) where
   pub header-good : 1 ≤ version → (serial ≡ 0 → ⊥) → length area ≤ mostArea → headerOf (withHeader version serial area) ≡ good done
   unfolding headerOf
   header-good v s h =
-      check-true _ 1 _ (le-leb headerLength (length (withHeader version serial area)) (omega (arith, header-length)))
-      ∙ check-true _ 2 _ header-marked
-      ∙ check-true _ 3 _ (rw header-version (lt-ltb 0 version v))
-      ∙ check-true _ 4 _ (rw header-serial (lt-ltb 0 serial (omega arith)))
-      ∙ check-true _ 5 _ (header-fits h)
+      check-true _ fileTooShort _ (le-leb headerLength (length (withHeader version serial area)) (omega (arith, header-length)))
+      ∙ check-true _ noMark _ header-marked
+      ∙ check-true _ noVersion _ (rw header-version (lt-ltb 0 version v))
+      ∙ check-true _ noSerial _ (rw header-serial (lt-ltb 0 serial (omega arith)))
+      ∙ check-true _ wrongArea _ (header-fits h)
 
 pub header-records : (version serial : ℕ) (w : Walked) → fills w ≡ true → recordsOf (withHeader version serial (flat w)) ≡ w
 unfolding recordsOf
