@@ -23,7 +23,7 @@ ghost use Rattle.guidance.specs.Guide.{lineGuide, filletGuide, lastLegGuide};
 ghost use Rattle.plan.specs.Limits.{mostPoints, mostRadius, mostTurn};
 ghost use Rattle.plan.specs.Places.{placeAt, courseAt, seen};
 ghost use Rattle.plan.specs.Stands.{Placed, Aiming, Long};
-ghost use Rattle.manager.specs.State.{emptyState, firstProgress, startOf, viewed, lastIndex, onLastLeg, lastPhase, atEnd, indexFits, phaseFits, endFits, placedOf, validOf, Valid};
+ghost use Rattle.manager.specs.State.{emptyState, firstProgress, viewed, lastIndex, onLastLeg, lastPhase, atEnd, indexFits, phaseFits, endFits, placedOf, validOf, Valid};
 ghost use Rattle.manager.specs.Step.{pathGuide, guideHere, nextOf, steppedBy, refusedAt, answered, movedOf, stepOf};
 ghost use Rattle.manager.specs.Finish.{Finishes};
 
@@ -97,14 +97,6 @@ pub fn first() -> Progress
         phase: 1,
         finished: false,
     }
-}
-
-// A plan at its start.
-pub fn start(plan: Plan) -> State
-    ensures { λ r. ⌜ r ≡ startOf plan ⌝ }
-{
-    let progress = first();
-    State { plan, progress }
 }
 
 // The last index of count points, in every mode.

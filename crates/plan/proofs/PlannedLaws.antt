@@ -12,7 +12,7 @@ use Rattle.plan.specs.declared.Plan.{Plan}
 use Rattle.plan.specs.Limits.{mostPoints}
 use Rattle.plan.specs.Places.{noPoint, pointsAt, padded, block, planNumbers, numbersOf, plannedIn, Filled}
 use Rattle.plan.specs.Stands.{Long}
-use Rattle.plan.proofs.BlockLaws.{padded-length, Blocks, joined-length, block-joined, blocksOf, numbers-joined}
+use Rattle.plan.proofs.BlockLaws.{padded-length, Blocks, block-joined, blocksOf, numbers-joined}
 use Rattle.plan.proofs.PlaceLaws.{paddedAt}
 
 module _ (p : Plan) (f : Filled p) where
@@ -21,9 +21,6 @@ module _ (p : Plan) (f : Filled p) where
 
   blocks : Blocks (blocksOf p)
   blocks = (f .north, (f .east, (f .down, (f .course, tt))))
-
-  pub numbers-length : length (numbersOf p) ≡ planNumbers
-  numbers-length = ap length (numbers-joined p) ∙ joined-length (blocksOf p) blocks
 
   back : (k : ℕ) → k < 4 → block k (numbersOf p) ≡ getD (blocksOf p) k []
   back k h = ap (block k) (numbers-joined p) ∙ block-joined k (blocksOf p) blocks h
