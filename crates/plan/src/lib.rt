@@ -20,6 +20,7 @@ ghost use Rattle.plan.specs.Limits.{mostPoints, mostRadius, mostTurn, in
 ghost use Rattle.plan.specs.Places.{numberAt, placeAt, courseAt, noCourse, seen};
 ghost use Rattle.plan.specs.Rules.{modeOf, coursesFit, pairNumber, cornerNumber, tangentNumber, endsNumber, atPlace, endsAt, pairAt, cornerAt, pairsOf, cornersOf, legsOf, geometryOn};
 ghost use Rattle.plan.specs.Stands.{givenOf, pointFits, placesFit, rulesOf, standsOf, There, Placed, IsLevelLeg, Aiming, Counted, Fit, Long, Bounded, Stands};
+ghost use Rattle.plan.specs.Facts.{PlanFacts};
 
 // The most points of a plan, and the fewest.
 pub const POINTS: usize = 64;
@@ -532,24 +533,15 @@ pub fn rules<'a>(
 {
     let count = head.count;
     if count < FEWEST_POINTS {
-        return Refusal {
-            number: refusals::POINT_COUNT,
-            place: 0,
-        };
+        return refusals::failed(refusals::POINT_COUNT);
     }
     if POINTS < count {
-        return Refusal {
-            number: refusals::POINT_COUNT,
-            place: 0,
-        };
+        return refusals::failed(refusals::POINT_COUNT);
     }
     if courses_fit(head.radius, given, count) {
         return geometry(head, norths, easts, downs, courses);
     }
-    Refusal {
-        number: refusals::COURSE_COUNT,
-        place: 0,
-    }
+    refusals::failed(refusals::COURSE_COUNT)
 }
 
 // Whether the values from one place to below another lie between limits. Those that do not are counted: without a way out of the loop the
@@ -622,7 +614,7 @@ pub fn stands<'a>(
     courses: &'a [i32],
 ) -> bool
     requires { ⌜ Long (now norths) (now easts) (now downs) (now courses) ⌝ }
-    ensures { λ r. ⌜ (r ≡ standsOf (seen head (now (norths .entry)) (now (easts .entry)) (now (downs .entry)) (now (courses .entry)))) × (r ≡ true → Stands (seen head (now (norths .entry)) (now (easts .entry)) (now (downs .entry)) (now (courses .entry)))) ⌝ }
+    ensures { λ r. ⌜ (r ≡ standsOf (seen head (now (norths .entry)) (now (easts .entry)) (now (downs .entry)) (now (courses .entry)))) × ((r ≡ true → Stands (seen head (now (norths .entry)) (now (easts .entry)) (now (downs .entry)) (now (courses .entry)))) × PlanFacts) ⌝ }
 {
     if head.serial == 0 {
         return false;

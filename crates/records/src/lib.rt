@@ -13,6 +13,7 @@ ghost use Rattle.plan.specs.Places.{planNumbers};
 ghost use Rattle.records.specs.Numbers.{u16At, u32At, i32At};
 ghost use Rattle.records.specs.Gather.{headerLength, gatherFrom, wholeEnd, verdictAt};
 ghost use Rattle.records.specs.Held.{counted, tallyOf, verdictOf, numbersIn, answerOf, gatheredOf};
+ghost use Rattle.records.specs.Facts.{RecordFacts};
 ghost use Rattle.records.specs.Kinds.{rowOf, knows, between, Parts, noParts, withPoint, withRadius, withCourse, pointOf, pointRule, radiusRule, courseRule, optionalRule, valueRule, knownRule, unknownRule, judge};
 
 // The first three bytes of a file, "WPL".
@@ -450,6 +451,7 @@ pub fn gather(file: &[u8], reader: u32, version: u16, numbers: &mut [i32]) -> Ga
     requires { ⌜ now numbers ≡ numbersIn noParts ⌝ }
     ensures { λ r. ⌜ r ≡ gatheredOf (gatherFrom reader version (now (file .entry)) headerLength noParts) ⌝ }
     ensures { λ _. ⌜ ((a : Parts) → gatherFrom reader version (now (file .entry)) headerLength noParts ≡ good a → now (numbers .exit) ≡ numbersIn a) ⌝ }
+    ensures { λ _. ⌜ RecordFacts ⌝ }
 {
     let mut at: usize = HEADER;
     let mut tally = nothing_tallied();

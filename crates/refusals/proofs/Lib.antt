@@ -1,3 +1,4 @@
 pub mod Bools
 pub mod OutcomeLaws
 pub mod SweepLaws
+pub mod OrderLaws

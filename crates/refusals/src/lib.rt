@@ -1,5 +1,10 @@
 // Refusals: their numbers, and the order in which they are found, a chain of checks and sweeps over places (document 01, "Refusal numbers and
 // their order"). The definitions have each number by the same name (specs/Numbers).
+ghost use mathlib.Core.Path.{_≡_};
+ghost use mathlib.Core.Bool.{false};
+ghost use Rattle.refusals.specs.Outcome.{good, check, refusalOf};
+ghost use Rattle.refusals.specs.Sweep.{done};
+ghost use Rattle.refusals.specs.Order.{Order};
 
 // Under 11 bytes.
 pub const FILE_TOO_SHORT: u8 = 1;
@@ -59,4 +64,12 @@ pub const MISFIT: u8 = 100;
 pub struct Refusal {
     pub number: u8,
     pub place: usize,
+}
+
+// What a check that fails answers: its number, at place 0.
+pub fn failed(number: u8) -> Refusal
+    ensures { λ r. ⌜ r ≡ refusalOf (check false number (good done)) ⌝ }
+    ensures { λ _. ⌜ Order ⌝ }
+{
+    Refusal { number, place: 0 }
 }

@@ -1,6 +1,6 @@
 -- `rules` asks 8, then 9, then the geometry. Assumes nothing.
 use mathlib.Core.Path.{sym, ap, _∙_}
-use Rattle.refusals.specs.Outcome.{refusalOf}
+use Rattle.refusals.specs.Outcome.{refusalOf, check}
 use Rattle.plan.specs.declared.Plan.{Plan}
 use Rattle.plan.specs.Places.{pointOf, courseOf, seen}
 use Rattle.plan.proofs.RuleLaws.{rules-few, rules-many, rules-courses, rules-geometry}
@@ -13,19 +13,25 @@ use Rattle.plan.proofs.rules.Tie as tie
 abbrev plan : tie.Start → Plan
 plan s = let a = s .args in seen (a .head) (a .norths .now) (a .easts .now) (a .downs .now) (a .courses .now)
 
-returns : tie.Need-returns
-unfolding refusalOf
-returns c =
-    let s = c .before in
-    let p = plan s in
-    sym (ap refusalOf (rules-few (p .head .mode) (p .head .radius) (s .args .given) (p .head .count) (pointOf p) (courseOf p) (c .if1 .taken)))
+failed-requires : tie.Need-failed-requires
+failed-requires c κs = search needs
 
-returns-2 : tie.Need-returns-2
-unfolding refusalOf
-returns-2 c =
+returns : tie.Need-returns
+unfolding refusalOf check
+returns c =
     let s = c .before .before in
     let p = plan s in
-    sym (ap refusalOf (rules-many (p .head .mode) (p .head .radius) (s .args .given) (p .head .count) (pointOf p) (courseOf p) (c .before .if1 .left) (c .if2 .taken)))
+    c .failed .ensures .0 ∙ sym (ap refusalOf (rules-few (p .head .mode) (p .head .radius) (s .args .given) (p .head .count) (pointOf p) (courseOf p) (c .before .if1 .taken)))
+
+failed-requires-2 : tie.Need-failed-requires-2
+failed-requires-2 c κs = search needs
+
+returns-2 : tie.Need-returns-2
+unfolding refusalOf check
+returns-2 c =
+    let s = c .before .before .before in
+    let p = plan s in
+    c .failed2 .ensures .0 ∙ sym (ap refusalOf (rules-many (p .head .mode) (p .head .radius) (s .args .given) (p .head .count) (pointOf p) (courseOf p) (c .before .before .if1 .left) (c .before .if2 .taken)))
 
 courses-fit-requires : tie.Need-courses-fit-requires
 courses-fit-requires c κs = search needs
@@ -53,17 +59,20 @@ returns-3 c =
     let p = plan s in
     c .geometry .ensures ∙ sym (ap refusalOf (rules-geometry (p .head .mode) (p .head .radius) (s .args .given) (p .head .count) (pointOf p) (courseOf p) (a .if1 .left) (b .if2 .left) (sym (f .courses-fit .ensures) ∙ c .before .if3 .taken)))
 
+failed-requires-3 : tie.Need-failed-requires-3
+failed-requires-3 c κs = search needs
+
 returns-4 : tie.Need-returns-4
-unfolding refusalOf
+unfolding refusalOf check
 returns-4 c =
-    let f = c .before in
+    let f = c .before .before in
     let b = f .before in
     let a = b .before in
     let s = a .before in
     let p = plan s in
-    sym (ap refusalOf (rules-courses (p .head .mode) (p .head .radius) (s .args .given) (p .head .count) (pointOf p) (courseOf p) (a .if1 .left) (b .if2 .left) (sym (f .courses-fit .ensures) ∙ c .if3 .left)))
+    c .failed3 .ensures .0 ∙ sym (ap refusalOf (rules-courses (p .head .mode) (p .head .radius) (s .args .given) (p .head .count) (pointOf p) (courseOf p) (a .if1 .left) (b .if2 .left) (sym (f .courses-fit .ensures) ∙ c .before .if3 .left)))
 
 pub rules-spec : {M : Type 1} → statement M
 rules-spec =
     tie.close
-    (tie.spec returns returns-2 courses-fit-requires geometry-requires returns-3 returns-4)
+    (tie.spec failed-requires returns failed-requires-2 returns-2 courses-fit-requires geometry-requires returns-3 failed-requires-3 returns-4)

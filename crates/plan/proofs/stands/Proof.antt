@@ -1,6 +1,6 @@
 -- `stands` decides refusal 14's part on the plan. Assumes nothing.
-use mathlib.Core.Path.{sym, ap, _∙_}
-use mathlib.Core.Bool.{false}
+use mathlib.Core.Path.{_≡_, sym, ap, _∙_}
+use mathlib.Core.Bool.{Bool, true, false}
 use Prim.Native.Nat.{ℕ}
 use lib.Dec.{eqb}
 use Rattle.refusals.specs.Outcome.{refusalOf}
@@ -8,8 +8,9 @@ use Rattle.refusals.proofs.Bools.{clash}
 use Rattle.plan.specs.declared.Plan.{Plan}
 use Rattle.plan.specs.Limits.{radiusFits}
 use Rattle.plan.specs.Places.{seen}
-use Rattle.plan.specs.Stands.{placesFit, rulesOf, standsOf}
-use Rattle.plan.proofs.LimitLaws.{told}
+use Rattle.plan.specs.Stands.{placesFit, rulesOf, standsOf, Stands}
+use Rattle.plan.specs.Facts.{PlanFacts}
+use Rattle.plan.proofs.FactLaws.{plan-facts}
 use Rattle.plan.proofs.StandLaws.{stands-found, stands-fails, stands-means, places-mean}
 use native.Mathlib.Omega.{arith}
 use borrow.Author.Needs.{needs}
@@ -19,15 +20,19 @@ use Rattle.plan.proofs.stands.Tie as tie
 abbrev plan : tie.Start → Plan
 plan s = let a = s .args in seen (a .head) (a .norths .now) (a .easts .now) (a .downs .now) (a .courses .now)
 
+-- what an answer that is the definition's tells
+answer : (p : Plan) (r : Bool) → r ≡ standsOf p → (r ≡ standsOf p) × ((r ≡ true → Stands p) × PlanFacts)
+answer p r e = (e, ((λ t. stands-means p (sym e ∙ t)), plan-facts))
+
 returns : tie.Need-returns
 returns c =
     let p = plan (c .before .before) in
-    told false (standsOf p) (stands-means p) (sym (stands-fails p (λ t. t .serial (c .if1 .taken))))
+    answer p false (sym (stands-fails p (λ t. t .serial (c .if1 .taken))))
 
 returns-2 : tie.Need-returns-2
 returns-2 c =
     let p = plan (c .before .before .before .before) in
-    told false (standsOf p) (stands-means p) (sym (stands-fails p (λ t. omega (arith, t .most, c .if2 .taken))))
+    answer p false (sym (stands-fails p (λ t. omega (arith, t .most, c .if2 .taken))))
 
 radius-fits-requires : tie.Need-radius-fits-requires
 radius-fits-requires c κs = search needs
@@ -56,7 +61,7 @@ returns-3 c =
     let a = b .before .before in
     let p = plan (a .before .before) in
     let rules = c .before .rules in
-    told (eqb (rules .result .number) 0) (standsOf p) (stands-means p)
+    answer p (eqb (rules .result .number) 0)
     (stands-found p (a .if1 .left) (b .if2 .left) (sym (r .radius-fits .ensures .0) ∙ f .before .if3 .taken) (sym (f .places-fit .ensures) ∙ g .before .if4 .taken)
     (rules .result) (rules .ensures ∙ ap (λ (n : ℕ). refusalOf (rulesOf p n)) (g .given-of .ensures)))
 
@@ -64,12 +69,12 @@ returns-4 : tie.Need-returns-4
 returns-4 c =
     let r = c .before .before .before in
     let p = plan (r .before .before .before .before .before) in
-    told false (standsOf p) (stands-means p) (sym (stands-fails p (λ t. clash (placesFit p) (t .places) (sym (c .before .places-fit .ensures) ∙ c .if4 .left))))
+    answer p false (sym (stands-fails p (λ t. clash (placesFit p) (t .places) (sym (c .before .places-fit .ensures) ∙ c .if4 .left))))
 
 returns-5 : tie.Need-returns-5
 returns-5 c =
     let p = plan (c .before .before .before .before .before .before) in
-    told false (standsOf p) (stands-means p) (sym (stands-fails p (λ t. clash (radiusFits (p .head .mode) (p .head .radius)) (t .radius) (sym (c .before .radius-fits .ensures .0) ∙ c .if3 .left))))
+    answer p false (sym (stands-fails p (λ t. clash (radiusFits (p .head .mode) (p .head .radius)) (t .radius) (sym (c .before .radius-fits .ensures .0) ∙ c .if3 .left))))
 
 pub stands-spec : {M : Type 1} → statement M
 stands-spec =

@@ -10,6 +10,7 @@ use Rattle.plan.specs.Places.{planNumbers}
 use Rattle.records.specs.Kinds.{noParts}
 use Rattle.records.proofs.HeldLaws.{same-count, same-given, numbers-length}
 use Rattle.records.proofs.StepLaws.{Gathers, Turn, takes-nothing, takes-point, takes-radius, takes-course, further, again, all-wrong, all-new, refused-shown, all-gathered, all-stored}
+use Rattle.records.proofs.FactLaws.{record-facts}
 use Rattle.records.proofs.gather.Statement.{statement}
 use Rattle.records.proofs.gather.Tie as tie
 
@@ -91,7 +92,7 @@ same-length c = as-long (c .before .before .before .before .before .before)
 returns : tie.Need-returns Inv-loop μ-loop
 returns c =
     let e = all-wrong (turn (c .before .before .before)) (c .before .enum-told2 .given .1) in
-    (c .nothing-gathered .ensures ∙ refused-shown e, (λ a g. never-good (sym e ∙ g)))
+    (c .nothing-gathered .ensures ∙ refused-shown e, ((λ a g. never-good (sym e ∙ g)), record-facts))
 
 enum-told-3 : tie.Need-enum-told-3 Inv-loop μ-loop
 enum-told-3 c = search needs
@@ -105,7 +106,7 @@ same-length-2 c = as-long (c .before .before .before .before .before .before)
 returns-2 : tie.Need-returns-2 Inv-loop μ-loop
 returns-2 c =
     let e = all-new (turn (c .before .before .before)) (c .before .enum-told3 .given .1) in
-    (c .nothing-gathered2 .ensures ∙ refused-shown e, (λ a g. never-good (sym e ∙ g)))
+    (c .nothing-gathered2 .ensures ∙ refused-shown e, ((λ a g. never-good (sym e ∙ g)), record-facts))
 
 loop-less : tie.Need-loop-less Inv-loop μ-loop
 loop-less c = further (turn (c .before .before)) (takes-nothing _ (c .enum-told .given .1))
@@ -157,7 +158,7 @@ returns-3 : tie.Need-returns-3 Inv-loop μ-loop
 returns-3 c =
     let i = c .before .loop .inv in
     let l = c .loop-test .left in
-    (all-gathered i l, all-stored i l)
+    (all-gathered i l, (all-stored i l, record-facts))
 
 pub gather-spec : {M : Type 1} → statement M
 gather-spec =

@@ -66,7 +66,7 @@ finish-requires c κs =
     let e = c .before .before in
     let g = e .before .before .before in
     let x = gather-gives _ _ _ (g .before .before .u16-at .ensures) _ (g .gather .ensures .0) (e .if4 .left) in
-    (x .parts, (x .ranged, (x .held, g .gather .ensures .1 (x .parts) (x .found))))
+    (x .parts, (x .ranged, (x .held, g .gather .ensures .1 .0 (x .parts) (x .found))))
 
 same-length-2 : tie.Need-same-length-2
 same-length-2 c = search needs
@@ -79,7 +79,7 @@ returns-5 c =
     let v = g .before .before in
     let h = v .before .before in
     let x = gather-gives _ _ _ (v .u16-at .ensures) _ (g .gather .ensures .0) (u .before .if4 .left) in
-    let n = g .gather .ensures .1 (x .parts) (x .found) in
+    let n = g .gather .ensures .1 .0 (x .parts) (x .found) in
     read-finished _ _ _ _ _ (x .parts)
     (records-give _ _ (h .before .before .if1 .left) (h .before .if2 .left) _ (h .header .ensures) (v .before .if3 .left) _ (x .are))
     (c .finish .ensures (x .parts) (x .held) n ∙ ap (λ (k : ℕ). enteredOf (loadedOf (finishOf k (x .parts)))) (u .u32-at .ensures)) n

@@ -1,0 +1,140 @@
+-- What the limits and rules of a plan come to, in document 01's numbers: literals, laws, and one list of examples that the prover computes. A
+-- definition that is changed together with the code that it describes is refused here. Assumes nothing.
+use mathlib.Core.Path.{_≡_}
+use mathlib.Core.Bool.{Bool, true, false}
+use mathlib.Core.List.{List, [], _∷_}
+use Prim.Native.Nat.{ℕ, _≤_, _<_}
+use lib.IntN.{ℤ, pos, negsuc}
+use lib.ListN.{length, set, replicate}
+use Rattle.refusals.specs.declared.Refusal.{Refusal}
+use Rattle.refusals.specs.Outcome.{refusalOf}
+use Rattle.plane.specs.declared.Point.{Point}
+use Rattle.fillets.specs.Corners.{turnOf}
+use Rattle.dubins.specs.declared.Ends.{Ends}
+use Rattle.dubins.specs.Choice.{hasPathOf, farApart}
+use Rattle.plan.specs.declared.Mode.{Mode}
+use Rattle.plan.specs.declared.Mode.the-variants.{Lines, Fillets, Dubins}
+use Rattle.plan.specs.declared.Plan.{Plan}
+use Rattle.plan.specs.Limits.{fewestPoints, mostPoints, mostLevel, mostDown, leastRadius, mostRadius, courses, mostTurn, inAreaOf, arcRadius}
+use Rattle.plan.specs.Places.{pointsAt, coursesAt, seen}
+use Rattle.plan.specs.Rules.{modeOf, cornerNumber, endsNumber, rulesOn}
+use Rattle.plan.specs.Stands.{standsOf}
+use Rattle.plan.specs.Loaded.{planOf, Loads}
+
+abbrev pub point : ℤ → ℤ → ℤ → Point
+point n e d = record { north = n; east = e; down = d }
+
+-- on the ground
+abbrev pub spot : ℕ → ℕ → Point
+spot n e = point (pos n) (pos e) (pos 0)
+
+-- ---- what an example says
+pub data Example : Type 0 where
+  -- a radius, points and courses are refused with a number at a place, or pass with 0
+  judged : ℕ → List Point → List ℕ → ℕ → ℕ → Example
+  -- whether a point lies in the area
+  inside : Point → Bool → Example
+  -- whether arcs of a radius are flown
+  arcs : ℕ → Bool → Example
+  -- whether a plan stands
+  stands : Plan → Bool → Example
+
+abbrev pub Holds : Example → Type 0
+Holds (judged R ps cs number place) =
+    _≡_ {A = Refusal} (refusalOf (rulesOn (modeOf R (length cs)) R (length cs) (length ps) (pointsAt ps) (coursesAt cs))) (record { number = number; place = place })
+Holds (inside p t) = inAreaOf p ≡ t
+Holds (arcs R t) = arcRadius R ≡ t
+Holds (stands p t) = standsOf p ≡ t
+
+abbrev pub All : List Example → Type 0
+All [] = Unit {0}
+All (x ∷ xs) = Holds x × All xs
+
+-- ---- points of examples: a corner of document 01; out and back
+abbrev pub corner : List Point
+corner = spot 0 0 ∷ spot 1000 0 ∷ spot 1000 1000 ∷ []
+
+abbrev pub back : List Point
+back = spot 0 0 ∷ spot 1000 0 ∷ spot 500 0 ∷ []
+
+-- the plan of that corner with another serial, mode, radius, norths or courses
+abbrev pub cornerPlan : ℕ → Mode → ℕ → (List ℤ → List ℤ) → (List ℤ → List ℤ) → Plan
+cornerPlan serial mode R norths courses =
+    let p = planOf 7 0 corner [] in
+    seen (record { serial = serial; mode = mode; radius = R; count = 3 }) (norths (p .norths)) (p .easts) (p .downs) (courses (p .courses))
+
+abbrev pub same : List ℤ → List ℤ
+same numbers = numbers
+
+-- with a 1 at a place, from 0
+abbrev pub onePut : ℕ → List ℤ → List ℤ
+onePut i numbers = set numbers i (pos 1)
+
+-- negsuc n is −(n + 1)
+abbrev pub examples : List Example
+examples =
+    -- 8, and 8 before 9
+    judged 0 (spot 0 0 ∷ spot 1000 0 ∷ []) [] 8 0
+    ∷ judged 0 (spot 0 0 ∷ spot 1000 0 ∷ []) (0 ∷ []) 8 0
+    ∷ judged 0 (replicate 65 (spot 0 0)) (0 ∷ []) 8 0
+    -- 9: a course without a radius, courses at some points only; and 9 before 10
+    ∷ judged 0 corner (0 ∷ 0 ∷ 0 ∷ []) 9 0
+    ∷ judged 100 corner (0 ∷ 0 ∷ []) 9 0
+    ∷ judged 0 (spot 0 0 ∷ spot 0 0 ∷ spot 1000 0 ∷ []) (0 ∷ []) 9 0
+    -- 10 at the later point, whatever its height; at the lower of two places; and 10 before 11
+    ∷ judged 0 (spot 0 0 ∷ point (pos 0) (pos 0) (pos 9) ∷ spot 1000 0 ∷ []) [] 10 2
+    ∷ judged 0 (spot 0 0 ∷ spot 1000 0 ∷ spot 1000 0 ∷ spot 1000 0 ∷ []) [] 10 3
+    ∷ judged 0 (spot 0 0 ∷ spot 1000 0 ∷ spot 500 0 ∷ spot 500 0 ∷ []) [] 10 4
+    -- points that are equal in one of north and east pass
+    ∷ judged 0 corner [] 0 0
+    -- 11 of lines at the corner, and only where the legs are opposite in three dimensions
+    ∷ judged 0 back [] 11 2
+    ∷ judged 0 (spot 0 0 ∷ point (pos 1000) (pos 0) (pos 9) ∷ spot 500 0 ∷ []) [] 0 0
+    -- 11 of fillets, before a 12 at a lower place
+    ∷ judged 1000 (spot 0 0 ∷ spot 0 100 ∷ spot 1000 100 ∷ spot 500 100 ∷ []) [] 11 3
+    -- 12: document 01's corner; tangent lengths of two corners together; and the lower of two places
+    ∷ judged 1000 corner [] 0 0
+    ∷ judged 1001 corner [] 12 2
+    ∷ judged 600 (spot 0 0 ∷ spot 1000 0 ∷ spot 1000 1000 ∷ spot 2000 1000 ∷ []) [] 12 3
+    -- 12 of a Dubins leg by its end point, under three radii; a turn back is none of its refusals
+    ∷ judged 100 (spot 0 0 ∷ spot 0 300 ∷ spot 0 0 ∷ []) (0 ∷ 0 ∷ 0 ∷ []) 0 0
+    ∷ judged 100 (spot 0 0 ∷ spot 0 300 ∷ spot 0 599 ∷ []) (0 ∷ 0 ∷ 0 ∷ []) 12 3
+    -- the limits
+    ∷ inside (point (pos 500000) (negsuc 499999) (pos 100000)) true
+    ∷ inside (point (negsuc 499999) (pos 500000) (negsuc 99999)) true
+    ∷ inside (point (pos 500001) (pos 0) (pos 0)) false
+    ∷ inside (point (negsuc 500000) (pos 0) (pos 0)) false
+    ∷ inside (point (pos 0) (pos 500001) (pos 0)) false
+    ∷ inside (point (pos 0) (negsuc 500000) (pos 0)) false
+    ∷ inside (point (pos 0) (pos 0) (pos 100001)) false
+    ∷ inside (point (pos 0) (pos 0) (negsuc 100000)) false
+    ∷ arcs 49 false
+    ∷ arcs 50 true
+    ∷ arcs 10000 true
+    ∷ arcs 10001 false
+    -- 14: a plan that stands, and with serial 0, a radius, a mode that its radius is not, an unused point, an unused course, a broken rule
+    ∷ stands (cornerPlan 7 Lines 0 same same) true
+    ∷ stands (cornerPlan 0 Lines 0 same same) false
+    ∷ stands (cornerPlan 7 Lines 100 same same) false
+    ∷ stands (cornerPlan 7 Fillets 0 same same) false
+    ∷ stands (cornerPlan 7 Lines 0 (onePut 3) same) false
+    ∷ stands (cornerPlan 7 Lines 0 same (onePut 0)) false
+    ∷ stands (planOf 7 0 back []) false
+    ∷ stands (planOf 7 100 (spot 0 0 ∷ spot 0 300 ∷ spot 0 0 ∷ []) (0 ∷ 4095 ∷ 0 ∷ [])) true
+    ∷ stands (planOf 7 100 (spot 0 0 ∷ spot 0 300 ∷ spot 0 0 ∷ []) (0 ∷ 4096 ∷ 0 ∷ [])) false
+    ∷ []
+
+pub record PlanFacts : Type 0 where
+  -- "points in 3..64", "North and east lie in ±500,000, down in ±100,000, radius R in 50..10,000", courses in 1/4096, "turn above 1,792"
+  pub limits :
+      fewestPoints ∷ mostPoints ∷ mostLevel ∷ mostDown ∷ leastRadius ∷ mostRadius ∷ courses ∷ mostTurn ∷ []
+      ≡ 3 ∷ 64 ∷ 500000 ∷ 100000 ∷ 50 ∷ 10000 ∷ 4096 ∷ 1792 ∷ []
+  -- 11 of fillets
+  pub sharp : (a b c : Point) → 1792 < turnOf a b c → cornerNumber Fillets a b c ≡ 11
+  pub blunt : (a b c : Point) → turnOf a b c ≤ 1792 → cornerNumber Fillets a b c ≡ 0
+  -- "12 precedes 17 at one leg"
+  pub close : (ends : Ends) → farApart (ends .start) (ends .end) (ends .radius) ≡ false → endsNumber ends ≡ 12
+  pub caseless : (ends : Ends) → farApart (ends .start) (ends .end) (ends .radius) ≡ true → hasPathOf ends ≡ false → endsNumber ends ≡ 17
+  -- the plan of what a file gives stands, once the rules have passed
+  pub loaded : (serial R : ℕ) (ps : List Point) (cs : List ℕ) → Loads serial R ps cs → standsOf (planOf serial R ps cs) ≡ true
+  pub each : All examples
