@@ -1,4 +1,4 @@
--- What the limits and rules of a plan come to, in document 01's numbers: literals, laws, and one list of examples that the prover computes. A
+-- What the limits and rules of a plan come to, in document 01's numbers: laws, and one list of examples that the prover computes. A
 -- definition that is changed together with the code that it describes is refused here. Assumes nothing.
 use mathlib.Core.Path.{_≡_}
 use mathlib.Core.Bool.{Bool, true, false}
@@ -30,6 +30,8 @@ spot n e = point (pos n) (pos e) (pos 0)
 
 -- ---- what an example says
 pub data Example : Type 0 where
+  -- a limit is a number
+  limit : ℕ → ℕ → Example
   -- a radius, points and courses are refused with a number at a place, or pass with 0
   judged : ℕ → List Point → List ℕ → ℕ → ℕ → Example
   -- whether a point lies in the area
@@ -40,6 +42,7 @@ pub data Example : Type 0 where
   stands : Plan → Bool → Example
 
 abbrev pub Holds : Example → Type 0
+Holds (limit named number) = named ≡ number
 Holds (judged R ps cs number place) =
     _≡_ {A = Refusal} (refusalOf (rulesOn (modeOf R (length cs)) R (length cs) (length ps) (pointsAt ps) (coursesAt cs))) (record { number = number; place = place })
 Holds (inside p t) = inAreaOf p ≡ t
@@ -73,8 +76,17 @@ onePut i numbers = set numbers i (pos 1)
 -- negsuc n is −(n + 1)
 abbrev pub examples : List Example
 examples =
+    -- "points in 3..64", "North and east lie in ±500,000, down in ±100,000, radius R in 50..10,000", courses in 1/4096, "turn above 1,792"
+    limit fewestPoints 3
+    ∷ limit mostPoints 64
+    ∷ limit mostLevel 500000
+    ∷ limit mostDown 100000
+    ∷ limit leastRadius 50
+    ∷ limit mostRadius 10000
+    ∷ limit courses 4096
+    ∷ limit mostTurn 1792
     -- 8, and 8 before 9
-    judged 0 (spot 0 0 ∷ spot 1000 0 ∷ []) [] 8 0
+    ∷ judged 0 (spot 0 0 ∷ spot 1000 0 ∷ []) [] 8 0
     ∷ judged 0 (spot 0 0 ∷ spot 1000 0 ∷ []) (0 ∷ []) 8 0
     ∷ judged 0 (replicate 65 (spot 0 0)) (0 ∷ []) 8 0
     -- 9: a course without a radius, courses at some points only; and 9 before 10
@@ -90,16 +102,16 @@ examples =
     -- 11 of lines at the corner, and only where the legs are opposite in three dimensions
     ∷ judged 0 back [] 11 2
     ∷ judged 0 (spot 0 0 ∷ point (pos 1000) (pos 0) (pos 9) ∷ spot 500 0 ∷ []) [] 0 0
+    -- 12 of a Dubins leg at its end point, under three radii; a turn back is none of its refusals
+    ∷ judged 100 (spot 0 0 ∷ spot 0 299 ∷ spot 0 600 ∷ []) (0 ∷ 0 ∷ 0 ∷ []) 12 2
+    ∷ judged 100 (spot 0 0 ∷ spot 0 300 ∷ spot 0 0 ∷ []) (0 ∷ 0 ∷ 0 ∷ []) 0 0
     -- 11 of fillets, before a 12 at a lower place
     ∷ judged 1000 (spot 0 0 ∷ spot 0 100 ∷ spot 1000 100 ∷ spot 500 100 ∷ []) [] 11 3
     -- 12: document 01's corner; tangent lengths of two corners together; and the lower of two places
     ∷ judged 1000 corner [] 0 0
     ∷ judged 1001 corner [] 12 2
     ∷ judged 600 (spot 0 0 ∷ spot 1000 0 ∷ spot 1000 1000 ∷ spot 2000 1000 ∷ []) [] 12 3
-    -- 12 of a Dubins leg by its end point, under three radii; a turn back is none of its refusals
-    ∷ judged 100 (spot 0 0 ∷ spot 0 300 ∷ spot 0 0 ∷ []) (0 ∷ 0 ∷ 0 ∷ []) 0 0
-    ∷ judged 100 (spot 0 0 ∷ spot 0 300 ∷ spot 0 599 ∷ []) (0 ∷ 0 ∷ 0 ∷ []) 12 3
-    -- the limits
+    -- the area, and the radius of arcs
     ∷ inside (point (pos 500000) (negsuc 499999) (pos 100000)) true
     ∷ inside (point (negsuc 499999) (pos 500000) (negsuc 99999)) true
     ∷ inside (point (pos 500001) (pos 0) (pos 0)) false
@@ -125,10 +137,6 @@ examples =
     ∷ []
 
 pub record PlanFacts : Type 0 where
-  -- "points in 3..64", "North and east lie in ±500,000, down in ±100,000, radius R in 50..10,000", courses in 1/4096, "turn above 1,792"
-  pub limits :
-      fewestPoints ∷ mostPoints ∷ mostLevel ∷ mostDown ∷ leastRadius ∷ mostRadius ∷ courses ∷ mostTurn ∷ []
-      ≡ 3 ∷ 64 ∷ 500000 ∷ 100000 ∷ 50 ∷ 10000 ∷ 4096 ∷ 1792 ∷ []
   -- 11 of fillets
   pub sharp : (a b c : Point) → 1792 < turnOf a b c → cornerNumber Fillets a b c ≡ 11
   pub blunt : (a b c : Point) → turnOf a b c ≤ 1792 → cornerNumber Fillets a b c ≡ 0

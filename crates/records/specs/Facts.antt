@@ -13,6 +13,7 @@ use Rattle.plane.specs.declared.Point.{Point}
 use Rattle.records.specs.Walk.{Walked, end, short, more, walk, fills, flat}
 use Rattle.records.specs.Kinds.{newest, row, table, Parts, noParts, holdsNewer, skipped, sift}
 use Rattle.records.specs.Gather.{headerLength, gather, gatherFrom}
+use Rattle.records.specs.Held.{counted}
 
 -- ---- what an example says, of a reader's version, a file's and the bytes of its records
 pub data Example : Type 0 where
@@ -30,6 +31,8 @@ pub data Example : Type 0 where
   sifts : List ℕ → List ℕ → Example
   -- whether reader three skips a kind
   skips : ℕ → Bool → Example
+  -- so many points or courses, up to one more than a plan holds
+  counts : ℕ → ℕ → Example
 
 -- the records stand behind a header
 abbrev pub gathered : ℕ → ℕ → List ℕ → Outcome Parts
@@ -43,6 +46,7 @@ Holds (walks area w) = walk area ≡ w
 Holds (filled area t) = fills (walk area) ≡ t
 Holds (sifts area rest) = flat (sift (walk area)) ≡ rest
 Holds (skips k t) = skipped k ≡ t
+Holds (counts n m) = counted n ≡ m
 
 abbrev pub All : List Example → Type 0
 All [] = Unit {0}
@@ -150,6 +154,10 @@ examples =
     ∷ skips 129 false
     ∷ skips 130 true
     ∷ skips 255 true
+    -- points over 64 are seen by 8
+    ∷ counts 64 64
+    ∷ counts 65 65
+    ∷ counts 99 65
     ∷ []
 
 -- reader r beside reader three on records that three gathers

@@ -1,3 +1,4 @@
+pub mod Examples
 pub mod Bools
 pub mod OutcomeLaws
 pub mod SweepLaws

@@ -9,6 +9,7 @@ use Rattle.integers.proofs.ChooseLaws.{choose-true, choose-false}
 use Rattle.refusals.specs.Outcome.{good, refused, check, andThen, refusalOf, isGood}
 use Rattle.refusals.specs.Sweep.{done, sweep}
 use Rattle.refusals.specs.Order.{Chain, Lowest, Order}
+use Rattle.refusals.proofs.Examples.{literals}
 use Rattle.refusals.proofs.Bools.{by-bool}
 use Rattle.refusals.proofs.SweepLaws.{every-means, every-of}
 
@@ -56,4 +57,4 @@ lowest k i =
     }
 
 pub order : Order
-order = record { numbers = refl; chain = chain; lowest = lowest }
+order = record { literals = literals; chain = chain; lowest = lowest }

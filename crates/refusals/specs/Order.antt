@@ -3,7 +3,7 @@
 use mathlib.Core.Path.{_≡_}
 use mathlib.Core.Bool.{true, false, Bool}
 use mathlib.Core.List.{List, [], _∷_}
-use Prim.Native.Nat.{ℕ, _+_, _≤_, _<_}
+use Prim.Native.Nat.{ℕ, _+_, _-_, _≤_, _<_}
 use Rattle.refusals.specs.declared.Refusal.{Refusal}
 use Rattle.refusals.specs.Numbers.{fileTooShort, noMark, noVersion, noSerial, wrongArea, wrongRecord, tooNew, pointCount, courseCount, equalNeighbours, sharpCorner, shortLeg, noPosition, noState, otherSerial, noRoom, noCase, misfit}
 use Rattle.refusals.specs.Outcome.{Outcome, good, refused, check, andThen, refusalOf, isGood}
@@ -34,7 +34,13 @@ pub record Lowest (k i : ℕ) : Type 0 where
   pub all : (f : ℕ → Bool) → ((m : ℕ) → i ≤ m → m < i + k → f m ≡ true) → every f k i ≡ true
   pub each : (f : ℕ → Bool) → every f k i ≡ true → (m : ℕ) → i ≤ m → m < i + k → f m ≡ true
 
-pub record Order : Type 0 where
+-- the literals: numbers; a chain whose second check fails; places 0, 1 and 2 with the numbers 0, 0 and 1
+pub record Literals : Type 0 where
   pub numbers : named ≡ 1 ∷ 2 ∷ 3 ∷ 4 ∷ 5 ∷ 6 ∷ 7 ∷ 8 ∷ 9 ∷ 10 ∷ 11 ∷ 12 ∷ 13 ∷ 14 ∷ 15 ∷ 16 ∷ 17 ∷ 100 ∷ []
+  pub second : check true 8 (check false 9 (good done)) ≡ refused 9 0
+  pub third : sweep (λ (j : ℕ). j - 1) 3 0 ≡ refused 1 3
+
+pub record Order : Type 0 where
+  pub literals : Literals
   pub chain : Chain
   pub lowest : (k i : ℕ) → Lowest k i

@@ -20,7 +20,8 @@ mul-if1 c =
 returns : tie.Need-returns
 returns c =
     let s = c .before .before .before .args in
-    λ a b e. easy-passes a b (s .squared) (s .radius) (s .before) (s .after) e (c .before .if2 .taken) (c .if3 .taken) (c .before .before .if1 .taken)
+    λ a b e. easy-passes a b (s .squared) (s .radius) (s .before) (s .after) e (omega (arith, c .before .if2 .taken)) (omega (arith, c .if3 .taken))
+    (omega (arith, c .before .before .if1 .taken))
 
 tangent-length-requires : tie.Need-tangent-length-requires
 tangent-length-requires c κs = search needs

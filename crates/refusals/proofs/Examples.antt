@@ -1,0 +1,11 @@
+-- The literals of numbers, chains and sweeps, computed. They stand before all laws, so that a definition that misses document 01 is refused by its
+-- example. Assumes nothing.
+use mathlib.Core.Path.{refl}
+use Rattle.integers.specs.Choose.{choose}
+use Rattle.refusals.specs.Outcome.{check}
+use Rattle.refusals.specs.Sweep.{sweep}
+use Rattle.refusals.specs.Order.{Literals}
+
+pub literals : Literals
+unfolding choose check sweep
+literals = record { numbers = refl; second = refl; third = refl }
