@@ -12,12 +12,13 @@ use borrow.Author.Tests.{lt-ltb, le-ltb}
 use Rattle.integers.specs.Choose.{choose}
 use Rattle.integers.proofs.ChooseLaws.{choose-true, choose-false}
 use Rattle.integers.specs.Bounds.{Within}
-use Rattle.integers.proofs.Ring.{v, lit, sub, mul, same, le, lt, lt-le, within-range}
+use Rattle.integers.proofs.Ring.{v, lit, sub, mul, same, le, le-of, lt, within-range}
 use Rattle.course.specs.declared.Vector.{Vector}
 use Rattle.course.specs.Vectors.{plain, cross}
-use Rattle.course.specs.Direction.{quarter, turned}
-use Rattle.course.specs.Bearing.{edgeOf, edgeNorth, edgeEast, Reached, IsBearing, reaches, climb, bearingIn, bearingBy, bearingOf, signedOf, signedBearingOf, Bears}
+use Rattle.course.specs.Direction.{quarter, turned, directionOf}
+use Rattle.course.specs.Bearing.{edgeOf, edgeNorth, edgeEast, Reached, IsBearing, reaches, climb, bearingIn, bearingBy, bearingOf, signedOf, signedBearingOf, IsSigned, Bears}
 use Rattle.course.proofs.TableLaws.{and-left, and-right}
+use Rattle.course.proofs.DirectionLaws.{table-facts}
 use Rattle.course.proofs.SectorLaws.{Shifted, sector-is, sector-only}
 
 -- ---- the climb stops at a number that passes, and the next one does not
@@ -157,6 +158,22 @@ bearing-only w k r =
     let b = s .b in
     quarter-only a b (last a b) (s .q) (s .some) (reached a b) (s .few) k (subst (λ (u : Vector). IsBearing u k) (sym (s .same)) r) ∙ s .value
 
+-- D(k) lies on the edge of its own unit, and the next edge lies past it
+direction-is : (k : ℕ) → k < 4096 → IsBearing (directionOf k) k
+unfolding edgeOf cross
+direction-is k h =
+    let u = directionOf k in
+    let w = directionOf (suc k) in
+    let turn = sub (mul (v (u .north)) (v (w .east))) (mul (v (u .east)) (v (w .north))) in
+    record {
+      round = h;
+      from = le (lit 0) (sub (mul (v (u .north)) (v (u .east))) (mul (v (u .east)) (v (u .north)))) (omega arith);
+      upto = lt (sub (mul (v (w .north)) (v (u .east))) (mul (v (w .east)) (v (u .north)))) (lit 0) (omega (arith, le-of (lit 388000) turn (table-facts .apart k)));
+    }
+
+direction-bears : (k : ℕ) → k < 4096 → bearingOf (directionOf k) ≡ k
+direction-bears k h = sym (bearing-only (directionOf k) k (direction-is k h))
+
 pub bearing-nought : bearingOf (plain 0 0) ≡ 0
 unfolding bearingOf bearingBy
 bearing-nought = refl
@@ -188,6 +205,7 @@ bears w r e =
       holds = λ h. subst (λ (k : ℕ). IsBearing w k) (sym e) (bearing-is w h);
       only = λ k b. bearing-only w k b ∙ sym e;
       nought = λ h. e ∙ ap bearingOf h ∙ bearing-nought;
+      own = λ k l h. e ∙ ap bearingOf h ∙ direction-bears k l;
     }
 
 -- what the code works out
@@ -203,13 +221,20 @@ pub signed-high : (k : ℕ) → 2048 ≤ k → signedOf k ≡ pos k -ℤ pos 409
 unfolding signedOf
 signed-high k h = choose-false (ltb k 2048) (pos k) (pos k -ℤ pos 4096) (le-ltb k 2048 h)
 
-range-dec : (k : ℕ) → k < 4096 → Dec (k < 2048) → (negℤ (pos 2048) ≤ℤ signedOf k) × (signedOf k <ℤ pos 2048)
-range-dec k h (yes p) = rw (signed-low k p) (le (v (negℤ (pos 2048))) (lit k) (omega arith), lt (lit k) (lit 2048) (omega arith))
+range-dec : (k : ℕ) → k < 4096 → Dec (k < 2048) → IsSigned (signedOf k)
+range-dec k h (yes p) = rw (signed-low k p) (record { least = le (v (negsuc 2047)) (lit k) (omega arith); most = le (lit k) (lit 2047) (omega arith) })
 range-dec k h (no p) =
-    rw (signed-high k (omega arith)) (le (v (negℤ (pos 2048))) (sub (lit k) (lit 4096)) (omega arith), lt (sub (lit k) (lit 4096)) (lit 2048) (omega arith))
+    rw (signed-high k (omega arith)) (record { least = le (v (negsuc 2047)) (sub (lit k) (lit 4096)) (omega arith); most = le (sub (lit k) (lit 4096)) (lit 2047) (omega arith) })
 
-pub signed-range : (w : Vector) → (negℤ (pos 2048) ≤ℤ signedBearingOf w) × (signedBearingOf w <ℤ pos 2048)
+pub signed-range : (w : Vector) → IsSigned (signedBearingOf w)
 signed-range w = range-dec (bearingOf w) (bearing-low w) (decLt (bearingOf w) 2048)
 
-pub signed-within : (w : Vector) → Within 2048 (signedBearingOf w)
-signed-within w = within-range 2048 (signedBearingOf w) (signed-range w .0) (lt-le (signed-range w .1))
+-- a number in that range has that bound
+pub signed-within : (z : ℤ) → IsSigned z → Within 2048 z
+signed-within z h = within-range 2048 z (h .least) (le (v z) (lit 2048) (omega (arith, le-of (v z) (lit 2047) (h .most))))
+
+-- an equation, and the range of what it says
+pub signed-carried : {r : ℤ} (w : Vector) → r ≡ signedBearingOf w → (r ≡ signedBearingOf w) × (Within 2048 r × IsSigned r)
+signed-carried w e =
+    let h = subst IsSigned (sym e) (signed-range w) in
+    (e, (signed-within _ h, h))

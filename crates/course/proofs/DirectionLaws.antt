@@ -1,4 +1,4 @@
--- Laws of D(k), for every k: its neighbour, its quarter turns, document 01's three facts. Assumes nothing.
+-- Laws of D(k), for every k: its neighbour, its quarter turns, document 01's facts of the table. Assumes nothing.
 use mathlib.Core.Path.{_≡_, refl, sym, ap, _∙_, subst}
 use Prim.Native.Nat.{ℕ, zero, suc, _+_, _*_, _-_, _/_, _%_, _≤_, _<_}
 use native.Mathlib.Omega.{arith}
@@ -12,7 +12,7 @@ use Rattle.course.specs.Table.{sineOf}
 use Rattle.course.specs.Vectors.{Near, plain, cross, squaredLength}
 use Rattle.course.specs.Direction.{quarter, turned, directionOf, TableFacts}
 use Rattle.course.proofs.VectorLaws.{vector}
-use Rattle.course.proofs.TableLaws.{table-rule, sine-0, sine-most}
+use Rattle.course.proofs.TableLaws.{table-rule, rises, sine-0, sine-512, sine-1024, sine-most}
 
 -- ---- quarter turns
 pub four-quarters : (u : Vector) → quarter (quarter (quarter (quarter u))) ≡ u
@@ -122,7 +122,7 @@ direction-near k =
     subst (Near 16384) (sym (direction-here k))
     (turned-near (k / 1024) (first j) (record { north = record { within = sine-most (1024 - j) (omega arith) }; east = record { within = sine-most j (omega arith) } }))
 
--- ---- document 01's three facts
+-- ---- document 01's facts of the table
 length-here : (k : ℕ) → squaredLength (directionOf k) ≡ squaredLength (first (k % 1024))
 length-here k = ap squaredLength (direction-here k) ∙ length-turned (k / 1024) (first (k % 1024))
 
@@ -130,9 +130,15 @@ cross-here : (k : ℕ) → cross (directionOf k) (directionOf (suc k)) ≡ cross
 cross-here k =
     (λ i. cross (direction-here k i) (direction-next k i)) ∙ cross-turned (k / 1024) (first (k % 1024)) (first (suc (k % 1024)))
 
-pub table-facts : (k : ℕ) → TableFacts k
+record FactsAt (k : ℕ) : Type 0 where
+  long : pos (268435456 - 23171) ≤ℤ squaredLength (directionOf k)
+  short : squaredLength (directionOf k) ≤ℤ pos (268435456 + 23171)
+  apart : pos 388000 ≤ℤ cross (directionOf k) (directionOf (suc k))
+  close : cross (directionOf k) (directionOf (suc k)) ≤ℤ pos 435500
+
+facts-at : (k : ℕ) → FactsAt k
 unfolding squaredLength cross
-table-facts k =
+facts-at k =
     let j = k % 1024 in
     let t = table-rule j (omega arith) in
     let north = sineOf (1024 - j) in
@@ -142,9 +148,21 @@ table-facts k =
     let e : sineOf (1024 - suc j) ≡ sineOf (1023 - j) = ap sineOf {x = 1024 - suc j} {y = 1023 - j} (omega arith) in
     let f : sineOf j * sineOf (1024 - suc j) ≡ sineOf j * sineOf (1023 - j) = ap (λ (n : ℕ). sineOf j * n) e in
     record {
-      rises = λ h. table-rule k h .rises;
       long = rw (length-here k) (le (lit (268435456 - 23171)) length (omega arith));
       short = rw (length-here k) (le length (lit (268435456 + 23171)) (omega arith));
       apart = rw (cross-here k) (le (lit 388000) turn (omega arith));
       close = rw (cross-here k) (le turn (lit 435500) (omega arith));
+    }
+
+pub table-facts : TableFacts
+table-facts =
+    record {
+      first = sine-0;
+      middle = sine-512;
+      last = sine-1024;
+      rises = rises;
+      long = λ k. facts-at k .long;
+      short = λ k. facts-at k .short;
+      apart = λ k. facts-at k .apart;
+      close = λ k. facts-at k .close;
     }

@@ -1,5 +1,4 @@
--- The rules of the course table, by one test that is computed over all of it; that no entry is near a half; and that `arc` is Machin's
--- π. Assumes nothing.
+-- The rules of the course table, by one test that is computed over all of it, and that its entries are sines. Assumes nothing.
 use mathlib.Core.Path.{_≡_, refl, subst}
 use mathlib.Core.Bool.{Bool, true, false, _&&_}
 use Prim.Native.Nat.{ℕ, zero, suc, _+_, _*_, _-_, _/_, _≤_, _<_}
@@ -7,7 +6,8 @@ use native.Mathlib.Omega.{arith}
 use native.Mathlib.Nat.{le-trans, le-refl, add-zero}
 use native.Mathlib.Decide.{decLt}
 use lib.Dec.{T, leb, leb→le}
-use Rattle.course.specs.Table.{unit, arc, series, scaledSine, sineOf}
+use Rattle.course.specs.Table.{unit, arc, series, scaledSine, sineOf, odd, arctan, machin, reach, AreSines}
+use Rattle.course.specs.Direction.{NeverFalls}
 
 pub and-left : (a b : Bool) → T (a && b) → T a
 and-left true b t = tt
@@ -78,11 +78,14 @@ unfolding test
 table-rule k h = rule-of (sineOf k) (sineOf (suc k)) (sineOf (1024 - k)) (sineOf (1023 - k)) (at test 1024 passed k h)
 
 -- ---- S never falls, over any distance
+pub rises : NeverFalls
+rises k h = table-rule k h .rises
+
 rise-by : (i d : ℕ) → i + d ≤ 1024 → sineOf i ≤ sineOf (i + d)
 rise-by i zero h = rw add-zero (le-refl (sineOf i))
 rise-by i (suc d) h =
     subst (λ (m : ℕ). sineOf i ≤ sineOf m) (omega arith)
-    (le-trans (rise-by i d (omega arith)) (table-rule (i + d) (omega arith) .rises))
+    (le-trans (rise-by i d (omega arith)) (rises (i + d) (omega arith)))
 
 pub never-falls : (i j : ℕ) → i ≤ j → j ≤ 1024 → sineOf i ≤ sineOf j
 never-falls i j h k = subst (λ (m : ℕ). sineOf i ≤ sineOf m) (omega arith) (rise-by i (j - i) (omega arith))
@@ -96,6 +99,10 @@ pub sine-1 : sineOf 1 ≡ 25
 unfolding series scaledSine sineOf
 sine-1 = refl
 
+pub sine-512 : sineOf 512 ≡ 11585
+unfolding series scaledSine sineOf
+sine-512 = refl
+
 pub sine-1024 : sineOf 1024 ≡ 16384
 unfolding series scaledSine sineOf
 sine-1024 = refl
@@ -103,15 +110,9 @@ sine-1024 = refl
 pub sine-most : (k : ℕ) → k ≤ 1024 → sineOf k ≤ 16384
 sine-most k h = omega (arith, never-falls k 1024 h (omega arith), sine-1024)
 
--- ---- no value comes within 1/8192 of a half, so that what the series leaves out (about 2^-96) cannot have changed an entry
-abbrev pub square : ℕ
-square = unit * unit
-
-abbrev pub reach : ℕ
-reach = square / 2 - square / 8192
-
+-- ---- no value comes within 1/8192 of a half, and the arc is Machin's
 clear : ℕ → ℕ → Bool
-clear s z = leb (s * square) (z + reach) && leb z (s * square + reach)
+clear s z = leb (s * (unit * unit)) (z + reach) && leb z (s * (unit * unit) + reach)
 
 clear-test : ℕ → Bool
 clear-test k = clear (sineOf k) (scaledSine (k * arc))
@@ -120,33 +121,25 @@ all-clear : T (all clear-test 1025)
 unfolding all clear-test clear series scaledSine sineOf
 all-clear = tt
 
-pub record Clear (k : ℕ) : Type 0 where
-  pub above : sineOf k * square ≤ scaledSine (k * arc) + reach
-  pub below : scaledSine (k * arc) ≤ sineOf k * square + reach
+module _ (k : ℕ) (h : k ≤ 1024) where
+  passes : T (clear (sineOf k) (scaledSine (k * arc)))
+  unfolding clear-test
+  passes = at clear-test 1025 all-clear k (omega arith)
 
-pub margin-rule : (k : ℕ) → k < 1025 → Clear k
-unfolding clear-test clear
-margin-rule k h =
-    let s = sineOf k * square in
-    let z = scaledSine (k * arc) in
-    let t = at clear-test 1025 all-clear k h in
-    record {
-      above = leb→le s (z + reach) (and-left (leb s (z + reach)) (leb z (s + reach)) t);
-      below = leb→le z (s + reach) (and-right (leb s (z + reach)) (leb z (s + reach)) t);
-    }
+  above : sineOf k * (unit * unit) ≤ scaledSine (k * arc) + reach
+  unfolding clear
+  above =
+      let s = sineOf k * (unit * unit) in
+      let z = scaledSine (k * arc) in
+      leb→le s (z + reach) (and-left (leb s (z + reach)) (leb z (s + reach)) passes)
 
--- ---- Machin: π/4 = 4·arctan(1/5) − arctan(1/239), so that 2π/4096 is that over 512
--- 1/m − (1/(m+2) − (1/(m+4) − ..)/x²)/x², n terms, in units of 2^-128
-unfoldable pub odd : ℕ → ℕ → ℕ → ℕ
-odd zero m x = 0
-odd (suc n) m x = unit / m - odd n (m + 2) x / (x * x)
+  below : scaledSine (k * arc) ≤ sineOf k * (unit * unit) + reach
+  unfolding clear
+  below =
+      let s = sineOf k * (unit * unit) in
+      let z = scaledSine (k * arc) in
+      leb→le z (s + reach) (and-right (leb s (z + reach)) (leb z (s + reach)) passes)
 
-unfoldable pub arctan : ℕ → ℕ
-arctan x = odd 30 1 x / x
-
-unfoldable pub machin : ℕ
-machin = (4 * arctan 5 - arctan 239) / 512
-
-pub arc-machin : (arc ≤ machin + 1) × (machin ≤ arc + 1)
+pub are-sines : AreSines
 unfolding odd arctan machin
-arc-machin = (leb→le arc (machin + 1) tt, leb→le machin (arc + 1) tt)
+are-sines = record { arcMost = leb→le arc (machin + 1) tt; arcLeast = leb→le machin (arc + 1) tt; above = above; below = below }

@@ -16,7 +16,7 @@ unfoldable pub edgeOf : ℕ → Vector
 edgeOf k = directionOf k
 
 -- "Bearing of a vector v ≠ 0: the one k with cross(D(k), v) ≥ 0 and cross(D(k+1), v) < 0, indices taken round." What a reader has to
--- believe: that bearingOf v is such a k, and that no other is, are the laws bearing-is and bearing-only of proofs/BearingLaws.
+-- believe; `bearing` promises it of its answer, and that no other k is one.
 pub record IsBearing (v : Vector) (k : ℕ) : Type 0 where
   pub round : k < 4096
   pub from : pos 0 ≤ℤ cross (edgeOf k) v
@@ -59,6 +59,10 @@ unfoldable pub bearingOf : Vector → ℕ
 bearingOf v = bearingBy (v .north) (v .east)
 
 -- "Signed bearing: −2048..2047."
+pub record IsSigned (z : ℤ) : Type 0 where
+  pub least : negsuc 2047 ≤ℤ z
+  pub most : z ≤ℤ pos 2047
+
 unfoldable pub signedOf : ℕ → ℤ
 signedOf k = choose (ltb k 2048) (pos k) (pos k -ℤ pos 4096)
 
@@ -73,10 +77,11 @@ pub record Reached (a b t : ℕ) : Type 0 where
   pub from : 1 ≤ t → edgeEast t * a ≤ edgeNorth t * b
   pub upto : t < 1024 → edgeNorth (suc t) * b < edgeEast (suc t) * a
 
--- r is the bearing of v: the twin's value, and document 01's predicate with no other number meeting it
+-- r is the bearing of v: the twin's value, and document 01's predicate with no other number meeting it. D(k) itself bears k.
 pub record Bears (v : Vector) (r : ℕ) : Type 0 where
   pub value : r ≡ bearingOf v
   pub low : r < 4096
   pub holds : (v ≡ plain 0 0 → ⊥) → IsBearing v r
   pub only : (k : ℕ) → IsBearing v k → k ≡ r
   pub nought : v ≡ plain 0 0 → r ≡ 0
+  pub own : (k : ℕ) → k < 4096 → v ≡ directionOf k → r ≡ k

@@ -8,8 +8,7 @@ use lib.ListN.{getD}
 abbrev pub unit : ℕ
 unit = 2 ^ 128
 
--- 1/4096 of a circle, 2π / 4096, to the nearest such unit. That it agrees with Machin's formula for π is the law arc-machin of
--- proofs/TableLaws.
+-- 1/4096 of a circle, 2π / 4096, to the nearest such unit
 abbrev pub arc : ℕ
 arc = 521986613312972044853359557207944718
 
@@ -22,10 +21,35 @@ series (suc n) m q = unit - q * series n (m + 2) q / (unit * (m * (m + 1)))
 unfoldable pub scaledSine : ℕ → ℕ
 scaledSine x = 16384 * x * series 16 2 (x * x / unit)
 
--- to the nearest whole number. No entry comes near a half: that is the law margin-rule of proofs/TableLaws.
+-- to the nearest whole number
 unfoldable pub sineOf : ℕ → ℕ
 sineOf k = (scaledSine (k * arc) + unit * unit / 2) / (unit * unit)
 
 -- that a list has S[k] at every k
 abbrev pub Sines : List ℕ → Type 0
 Sines xs = (k : ℕ) → k ≤ 1024 → getD xs k 0 ≡ sineOf k
+
+-- ---- that these are sines
+
+-- Machin: π/4 = 4·arctan(1/5) − arctan(1/239), so that 2π/4096 is that over 512. The first n terms of x·arctan(1/x) are
+-- 1/m − (1/(m+2) − (1/(m+4) − ..)/x²)/x² with m = 1
+unfoldable pub odd : ℕ → ℕ → ℕ → ℕ
+odd zero m x = 0
+odd (suc n) m x = unit / m - odd n (m + 2) x / (x * x)
+
+unfoldable pub arctan : ℕ → ℕ
+arctan x = odd 30 1 x / x
+
+unfoldable pub machin : ℕ
+machin = (4 * arctan 5 - arctan 239) / 512
+
+-- half a whole number less 1/8192, in units of 2^-256
+abbrev pub reach : ℕ
+reach = unit * unit / 2 - unit * unit / 8192
+
+-- The arc is Machin's, and no value comes within 1/8192 of a half: what the series leaves out is about 2^-96, so that it changes no entry.
+pub record AreSines : Type 0 where
+  pub arcMost : arc ≤ machin + 1
+  pub arcLeast : machin ≤ arc + 1
+  pub above : (k : ℕ) → k ≤ 1024 → sineOf k * (unit * unit) ≤ scaledSine (k * arc) + reach
+  pub below : (k : ℕ) → k ≤ 1024 → scaledSine (k * arc) ≤ sineOf k * (unit * unit) + reach

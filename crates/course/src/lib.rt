@@ -5,10 +5,10 @@ ghost use lib.Dec.{leb};
 ghost use lib.IntN.{pos, _*ℤ_};
 ghost use Rattle.integers.specs.Bounds.{Within};
 ghost use Rattle.integers.specs.Round.{nearestOf};
-ghost use Rattle.course.specs.Table.{sineOf, Sines};
+ghost use Rattle.course.specs.Table.{sineOf, Sines, AreSines};
 ghost use Rattle.course.specs.Vectors.{Near, plain};
-ghost use Rattle.course.specs.Direction.{turned, directionOf};
-ghost use Rattle.course.specs.Bearing.{edgeNorth, edgeEast, Reached, Bears, bearingOf, signedBearingOf};
+ghost use Rattle.course.specs.Direction.{turned, directionOf, TableFacts};
+ghost use Rattle.course.specs.Bearing.{edgeNorth, edgeEast, Reached, Bears, bearingOf, signedBearingOf, IsSigned};
 ghost use Rattle.course.specs.Offset.{offsetOf};
 
 // A level vector, in decimetres or, of a direction, in 1/16,384.
@@ -1065,6 +1065,7 @@ fn entry(table: &[u16; 1025], k: usize) -> u16
 pub fn sine(k: usize) -> u16
     requires { ⌜ k ≤ 1024 ⌝ }
     ensures { λ r. ⌜ r ≡ sineOf k ⌝ }
+    ensures { λ _. ⌜ AreSines × TableFacts ⌝ }
 {
     let table = table();
     entry(&table, k)
@@ -1281,7 +1282,9 @@ pub fn bearing(v: Vector) -> usize
 // The bearing of v as a signed number, -2048 to 2047.
 pub fn signed_bearing(v: Vector) -> i64
     requires { ⌜ Near 140737488355328 v ⌝ }
-    ensures { λ r. ⌜ (r ≡ signedBearingOf v) × Within 2048 r ⌝ }
+    ensures { λ r. ⌜ r ≡ signedBearingOf v ⌝ }
+    ensures { λ r. ⌜ Within 2048 r ⌝ }
+    ensures { λ r. ⌜ IsSigned r ⌝ }
 {
     let k = bearing(v);
     if k < 2048 {

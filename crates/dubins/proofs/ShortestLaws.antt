@@ -1,10 +1,10 @@
--- A shortest path is found exactly when a case exists; it is the path of its own case, and no case is shorter. No case is shorter than its
--- straight part. Assumes nothing.
+-- A shortest path is found exactly when a case exists. It is the path of its own case, no case is shorter and no earlier one as short, and no
+-- other path is so. No case is shorter than its straight part. Assumes nothing.
 use mathlib.Core.Path.{_≡_, refl, sym, ap, _∙_, subst}
-use mathlib.Core.Bool.{Bool, true, false, _||_}
-use Prim.Native.Nat.{ℕ, zero, suc, _≤_, _<_}
-use native.Mathlib.Nat.{le-refl}
+use mathlib.Core.Bool.{Bool, true, false, true≢false, _||_}
+use Prim.Native.Nat.{ℕ, suc, _≤_, _<_}
 use native.Mathlib.Omega.{arith}
+use native.Mathlib.Decide.{decLt}
 use lib.Dec.{leb}
 use borrow.Author.Tests.{leb-true, leb-false, le-leb, lt-leb}
 use Rattle.integers.specs.Choose.{choose}
@@ -15,7 +15,7 @@ use Rattle.dubins.specs.declared.Path.{Path}
 use Rattle.dubins.specs.declared.Found.{Found}
 use Rattle.dubins.specs.declared.Found.the-variants.{Shortest, Missing}
 use Rattle.dubins.specs.Cases.{circlesOf, caseExists, straightOf, courseOf, lengthOf, pathOf}
-use Rattle.dubins.specs.Choice.{casePath, shorterOf, shortestOf, hasPathOf}
+use Rattle.dubins.specs.Choice.{casePath, shorterOf, shortestOf, hasPathOf, Wins, IsShortest, Chosen}
 
 -- ---- of two paths
 module _ (p q : Path) where
@@ -90,81 +90,116 @@ found-when ends h = found-is (shortestOf ends) (has-path ends ∙ h)
 pub missing-when : (ends : Ends) → hasPathOf ends ≡ false → shortestOf ends ≡ Missing
 missing-when ends h = missing-is (shortestOf ends) (has-path ends ∙ h)
 
-pub when-found : (ends : Ends) (p : Path) → shortestOf ends ≡ Shortest p → hasPathOf ends ≡ true
-when-found ends p e = sym (has-path ends) ∙ ap isFound e
+-- ---- what is found wins, and nothing else does
+none : {q : Path} {A : Type 0} → _≡_ {A = Found} Missing (Shortest q) → A
+none e = absurd (true≢false (sym (ap isFound e)))
 
-pub when-missing : (ends : Ends) → shortestOf ends ≡ Missing → hasPathOf ends ≡ false
-when-missing ends e = sym (has-path ends) ∙ ap isFound e
+abbrev caseIn : Found → ℕ
+caseIn (Shortest p) = p .case
+caseIn Missing = 0
 
--- ---- what is found is the path of its own case
-abbrev Own : Ends → Found → Type 0
-Own ends (Shortest p) = casePath ends (p .case) ≡ Shortest p
-Own ends Missing = Unit {0}
+abbrev lengthIn : Found → ℕ
+lengthIn (Shortest p) = p .length
+lengthIn Missing = 0
+
+number-by : (case : ℕ) (t : Bool) (p q : Path) → p .case ≡ case → choose t (Shortest p) Missing ≡ Shortest q → q .case ≡ case
+unfolding choose
+number-by case true p q k e = sym (ap caseIn e) ∙ k
+number-by case false p q k e = none e
 
 module _ (ends : Ends) where
-  own-by : (case : ℕ) (t : Bool) (p : Path) → p .case ≡ case → casePath ends case ≡ choose t (Shortest p) Missing → Own ends (choose t (Shortest p) Missing)
-  unfolding choose
-  own-by case true p k e = ap (casePath ends) k ∙ e
-  own-by case false p k e = tt
-
-  own-case : (case : ℕ) → Own ends (casePath ends case)
+  case-number : (case : ℕ) (q : Path) → casePath ends case ≡ Shortest q → q .case ≡ case
   unfolding casePath pathOf
-  own-case case = own-by case (caseExists ends case) _ refl refl
+  case-number case q e = number-by case (caseExists ends case) _ q refl e
 
-  own-either : (t : Bool) (a b : Found) → Own ends a → Own ends b → Own ends (choose t a b)
-  unfolding choose
-  own-either true a b h k = h
-  own-either false a b h k = k
+  -- of the cases up to m, as Wins of all four
+  record Leads (m : ℕ) (p : Path) : Type 0 where
+    least : 1 ≤ p .case
+    most : p .case ≤ m
+    own : casePath ends (p .case) ≡ Shortest p
+    shortest : (case : ℕ) (q : Path) → 1 ≤ case → case ≤ m → casePath ends case ≡ Shortest q → p .length ≤ q .length
+    earliest : (case : ℕ) (q : Path) → 1 ≤ case → case < p .case → casePath ends case ≡ Shortest q → p .length < q .length
 
-  own-shorter : (a b : Found) → Own ends a → Own ends b → Own ends (shorterOf a b)
-  unfolding shorterOf
-  own-shorter a Missing h k = h
-  own-shorter Missing (Shortest q) h k = k
-  own-shorter (Shortest p) (Shortest q) h k = own-either (leb (p .length) (q .length)) (Shortest p) (Shortest q) h k
+  abbrev Leading : ℕ → Found → Type 0
+  Leading m (Shortest p) = Leads m p
+  Leading m Missing = (case : ℕ) → 1 ≤ case → case ≤ m → casePath ends case ≡ Missing
 
-  pub shortest-case : (p : Path) → shortestOf ends ≡ Shortest p → casePath ends (p .case) ≡ Shortest p
+  module _ (m : ℕ) where
+    -- p leads on where case m + 1 is no shorter
+    kept : (p : Path) → Leads m p → ((q : Path) → casePath ends (suc m) ≡ Shortest q → p .length ≤ q .length) → Leads (suc m) p
+    kept p l h =
+        record {
+          least = l .least;
+          most = omega (arith, l .most);
+          own = l .own;
+          shortest = λ case q a b e. by-dec case q a b e (decLt case (suc m));
+          earliest = l .earliest;
+        }
+      where
+        by-dec : (case : ℕ) (q : Path) → 1 ≤ case → case ≤ suc m → casePath ends case ≡ Shortest q → Dec (case < suc m) → p .length ≤ q .length
+        by-dec case q a b e (yes d) = l .shortest case q a (omega arith) e
+        by-dec case q a b e (no d) = h q (ap (casePath ends) {x = suc m} {y = case} (omega arith) ∙ e)
+
+    -- and case m + 1 does where it is shorter than all before it
+    taken : (p : Path) → casePath ends (suc m) ≡ Shortest p → ((case : ℕ) (q : Path) → 1 ≤ case → case ≤ m → casePath ends case ≡ Shortest q → p .length < q .length) → Leads (suc m) p
+    taken p k h =
+        let n = case-number (suc m) p k in
+        record {
+          least = omega (arith, n);
+          most = omega (arith, n);
+          own = ap (casePath ends) n ∙ k;
+          shortest = λ case q a b e. by-dec case q a b e (decLt case (suc m));
+          earliest = λ case q a b e. h case q a (omega (arith, n)) e;
+        }
+      where
+        by-dec : (case : ℕ) (q : Path) → 1 ≤ case → case ≤ suc m → casePath ends case ≡ Shortest q → Dec (case < suc m) → p .length ≤ q .length
+        by-dec case q a b e (yes d) = omega (arith, h case q a (omega arith) e)
+        by-dec case q a b e (no d) = omega (arith, ap lengthIn (sym k ∙ ap (casePath ends) {x = suc m} {y = case} (omega arith) ∙ e))
+
+    by-length : (p q : Path) (t : Bool) → leb (p .length) (q .length) ≡ t → casePath ends (suc m) ≡ Shortest q → Leads m p → Leading (suc m) (choose t (Shortest p) (Shortest q))
+    unfolding choose
+    by-length p q true e k l = kept p l (λ r s. omega (arith, leb-true (p .length) (q .length) e, ap lengthIn (sym k ∙ s)))
+    by-length p q false e k l = taken q k (λ case r a b s. omega (arith, leb-false (p .length) (q .length) e, l .shortest case r a b s))
+
+    still-none : casePath ends (suc m) ≡ Missing → Leading m Missing → (case : ℕ) → 1 ≤ case → case ≤ suc m → Dec (case < suc m) → casePath ends case ≡ Missing
+    still-none k l case a b (yes d) = l case a (omega arith)
+    still-none k l case a b (no d) = ap (casePath ends) {x = case} {y = suc m} (omega arith) ∙ k
+
+    step : (a b : Found) → casePath ends (suc m) ≡ b → Leading m a → Leading (suc m) (shorterOf a b)
+    unfolding shorterOf
+    step Missing Missing k l = λ case a b. still-none k l case a b (decLt case (suc m))
+    step (Shortest p) Missing k l = kept p l (λ q e. none (sym k ∙ e))
+    step Missing (Shortest q) k l = taken q k (λ case r a b e. none (sym (l case a b) ∙ e))
+    step (Shortest p) (Shortest q) k l = by-length p q (leb (p .length) (q .length)) refl k l
+
+  leading : Leading 4 (shortestOf ends)
   unfolding shortestOf
-  shortest-case p e =
-      subst (Own ends) e
-      (own-shorter _ _ (own-shorter _ _ (own-shorter _ _ (own-case 1) (own-case 2)) (own-case 3)) (own-case 4))
+  leading =
+      step 3 _ _ refl (step 2 _ _ refl (step 1 _ _ refl (subst (Leading 1) (only-later (casePath ends 1)) (step 0 Missing _ refl (λ case a b. absurd (omega arith))))))
 
--- ---- no case that exists is shorter
-abbrev AtMost : ℕ → Found → Type 0
-AtMost n (Shortest p) = p .length ≤ n
-AtMost n Missing = ⊥
+  all-four : (f : Found) → Leading 4 f → IsShortest ends f
+  all-four (Shortest p) l = record { least = l .least; most = l .most; own = l .own; shortest = l .shortest; earliest = l .earliest }
+  all-four Missing l = l
 
-module _ (n : ℕ) where
-  by-first : (p q : Path) (t : Bool) → leb (p .length) (q .length) ≡ t → p .length ≤ n → AtMost n (choose t (Shortest p) (Shortest q))
-  unfolding choose
-  by-first p q true e h = h
-  by-first p q false e h = omega (arith, leb-false (p .length) (q .length) e)
+  pub shortest-is : IsShortest ends (shortestOf ends)
+  shortest-is = all-four (shortestOf ends) leading
 
-  by-second : (p q : Path) (t : Bool) → leb (p .length) (q .length) ≡ t → q .length ≤ n → AtMost n (choose t (Shortest p) (Shortest q))
-  unfolding choose
-  by-second p q true e h = omega (arith, leb-true (p .length) (q .length) e)
-  by-second p q false e h = h
+  wins-once : (p q : Path) → Wins ends p → Wins ends q → Dec (p .case < q .case) → Dec (q .case < p .case) → Shortest p ≡ Shortest q
+  wins-once p q v w (yes d) e = absurd (omega (arith, w .earliest (p .case) p (v .least) d (v .own), v .shortest (q .case) q (w .least) (w .most) (w .own)))
+  wins-once p q v w (no d) (yes e) = absurd (omega (arith, v .earliest (q .case) q (w .least) e (w .own), w .shortest (p .case) p (v .least) (v .most) (v .own)))
+  wins-once p q v w (no d) (no e) = sym (v .own) ∙ ap (casePath ends) {x = p .case} {y = q .case} (omega arith) ∙ w .own
 
-  first-most : (a b : Found) → AtMost n a → AtMost n (shorterOf a b)
-  unfolding shorterOf
-  first-most (Shortest p) Missing h = h
-  first-most (Shortest p) (Shortest q) h = by-first p q (leb (p .length) (q .length)) refl h
-  first-most Missing b h = absurd h
+  pub shortest-only : (f g : Found) → IsShortest ends f → IsShortest ends g → f ≡ g
+  shortest-only (Shortest p) (Shortest q) v w = wins-once p q v w (decLt (p .case) (q .case)) (decLt (q .case) (p .case))
+  shortest-only (Shortest p) Missing v w = none (sym (w (p .case) (v .least) (v .most)) ∙ v .own)
+  shortest-only Missing (Shortest q) v w = none (sym (v (q .case) (w .least) (w .most)) ∙ w .own)
+  shortest-only Missing Missing v w = refl
 
-  second-most : (a b : Found) → AtMost n b → AtMost n (shorterOf a b)
-  unfolding shorterOf
-  second-most a Missing h = absurd h
-  second-most Missing (Shortest q) h = h
-  second-most (Shortest p) (Shortest q) h = by-second p q (leb (p .length) (q .length)) refl h
-
-  case-most : (ends : Ends) (case : ℕ) → 1 ≤ case → case ≤ 4 → AtMost n (casePath ends case) → AtMost n (shortestOf ends)
-  unfolding shortestOf
-  case-most ends zero l u h = absurd (omega arith)
-  case-most ends (suc zero) l u h = first-most _ _ (first-most _ _ (first-most _ _ h))
-  case-most ends (suc (suc zero)) l u h = first-most _ _ (first-most _ _ (second-most _ _ h))
-  case-most ends (suc (suc (suc zero))) l u h = first-most _ _ (second-most _ _ h)
-  case-most ends (suc (suc (suc (suc zero)))) l u h = second-most _ _ h
-  case-most ends (suc (suc (suc (suc (suc k))))) l u h = absurd (omega arith)
-
-pub none-shorter : (ends : Ends) (case : ℕ) (p q : Path) → 1 ≤ case → case ≤ 4 → shortestOf ends ≡ Shortest p → casePath ends case ≡ Shortest q → p .length ≤ q .length
-none-shorter ends case p q l u e k =
-    subst (AtMost (q .length)) e (case-most (q .length) ends case l u (subst (AtMost (q .length)) (sym k) (le-refl (q .length))))
+  pub chosen : (r : Found) → r ≡ shortestOf ends → Chosen ends r
+  chosen r e =
+      record {
+        holds = subst (IsShortest ends) (sym e) shortest-is;
+        only = λ f h. shortest-only f (shortestOf ends) h shortest-is ∙ sym e;
+        found = λ h. let p = found-when ends h in (p .0, e ∙ p .1);
+        missing = λ h. e ∙ missing-when ends h;
+      }

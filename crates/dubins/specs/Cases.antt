@@ -39,8 +39,7 @@ circlesOf ends case =
     let end = centreOf (ends .end) (ends .radius) (ends .arrive) (endsRight case) in
     record { start = start; end = end; v = minus end start }
 
--- "RSR and LSL exist when v ≠ 0", which is v·v > 0 by the laws outer-exists and outer-apart of proofs/ExistenceLaws;
--- "RSL and LSR exist when v·v ≥ 4R²"
+-- "RSR and LSL exist when v ≠ 0", which is v·v > 0; "RSL and LSR exist when v·v ≥ 4R²": Existence of Choice says so of each case
 unfoldable pub tangentExists : ℕ → ℕ → Vector → Bool
 tangentExists case R v = choose (sameSide case) (ltb 0 (squareOf v)) (leb (4 * R * R) (squareOf v))
 

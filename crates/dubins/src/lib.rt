@@ -12,7 +12,7 @@ ghost use Rattle.dubins.specs.declared.Path.{Path};
 ghost use Rattle.dubins.specs.declared.Found.the-variants.{Shortest};
 ghost use Rattle.dubins.specs.Limits.{IsEnds, IsCircles, IsPath, IsFound};
 ghost use Rattle.dubins.specs.Cases.{startsRight, endsRight, sameSide, centreOf, circlesOf, tangentExists, straightOf, innerTangent, courseOf, turnOf, touchOf, pathOf, caseExists};
-ghost use Rattle.dubins.specs.Choice.{casePath, shorterOf, shortestOf, hasPathOf, farApart};
+ghost use Rattle.dubins.specs.Choice.{casePath, shorterOf, shortestOf, hasPathOf, farApart, Chosen, Existence};
 ghost use Rattle.dubins.specs.Ways.{AreCentres, IsWay, IsTried, pathAlong, foundBy};
 
 // The ends of a leg: its points, the courses to leave and to arrive on, the radius of the circles.
@@ -336,7 +336,9 @@ fn found_by(tried: Tried, radius: u64) -> Found
 // The shortest leg by any case. The centres are worked out once for all cases, z1 and z2 for the shortest alone.
 pub fn shortest_path(ends: Ends) -> Found
     requires { ⌜ IsEnds ends ⌝ }
-    ensures { λ r. ⌜ (r ≡ shortestOf ends) × IsFound r ⌝ }
+    ensures { λ r. ⌜ r ≡ shortestOf ends ⌝ }
+    ensures { λ r. ⌜ IsFound r ⌝ }
+    ensures { λ r. ⌜ Chosen ends r ⌝ }
 {
     let start = ends.start;
     let end = ends.end;
@@ -353,6 +355,7 @@ pub fn shortest_path(ends: Ends) -> Found
 pub fn has_path(ends: Ends) -> bool
     requires { ⌜ IsEnds ends ⌝ }
     ensures { λ r. ⌜ r ≡ hasPathOf ends ⌝ }
+    ensures { λ _. ⌜ Existence ends ⌝ }
 {
     if case_exists(ends, 1) {
         return true;

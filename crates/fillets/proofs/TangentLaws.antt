@@ -1,20 +1,19 @@
--- Of a turn up to 1,792, with (C, S) = D(τ): S ≥ 0, 16,384 + C ≥ 1,247, and a radius up to 10,000 has a tangent length of at most 50,280. By
--- one test over the quarter in which C is negative. Assumes nothing.
+-- Of a turn up to 1,792, with (C, S) = D(τ): S ≥ 0, 16,384 + C ≥ 1,247, the tangent length is the floor that document 01 asks for, and of a
+-- radius up to 10,000 at most 50,280. By one test over the quarter in which C is negative. Assumes nothing.
 use mathlib.Core.Path.{_≡_, refl, sym, ap, _∙_, subst}
 use mathlib.Core.Bool.{Bool, _&&_}
 use Prim.Native.Nat.{ℕ, suc, _+_, _*_, _-_, _/_, _%_, _≤_, _<_}
-use native.Mathlib.Nat.{mul-le-mul-right, div-lt-iff-lt-mul}
+use native.Mathlib.Nat.{mul-le-mul-right, div-mul-le-self, div-lt-iff-lt-mul}
 use native.Mathlib.Omega.{arith}
 use native.Mathlib.Decide.{decLt}
 use lib.Dec.{T, leb, leb→le}
 use lib.IntN.{ℤ, pos, negℤ, natAbs, _+ℤ_}
-use lib.Signed.{_≤ℤ_}
-use Rattle.integers.proofs.Ring.{lit, neg, add, same, le}
+use Rattle.integers.proofs.Ring.{lit, neg, add, same, le, lt}
 use Rattle.course.specs.Table.{series, scaledSine, sineOf}
 use Rattle.course.specs.Direction.{directionOf}
 use Rattle.course.proofs.TableLaws.{all, at, and-left, and-right, sine-most}
 use Rattle.course.proofs.DirectionLaws.{direction-here, turned-0, turned-1}
-use Rattle.fillets.specs.Corners.{tangentOf}
+use Rattle.fillets.specs.Corners.{tangentOf, IsTangent}
 
 -- ---- the test, of j = τ − 1,024: 16,384 − S[j] is large enough, for the division and for the bound
 fits : ℕ → ℕ → Bool
@@ -27,11 +26,7 @@ passed : T (all test 769)
 unfolding all test fits series scaledSine sineOf
 passed = tt
 
--- ---- what the formula needs of C and S, and what it gives
-pub record Signs (C S : ℤ) : Type 0 where
-  pub sine : pos 0 ≤ℤ S
-  pub base : pos 1247 ≤ℤ (pos 16384 +ℤ C)
-
+-- ---- what the formula needs of C and S
 record Parts (C S : ℤ) (sine base : ℕ) : Type 0 where
   sine-is : S ≡ pos sine
   base-is : pos 16384 +ℤ C ≡ pos base
@@ -79,12 +74,22 @@ split : (τ : ℕ) → τ ≤ 1792 → Split (directionOf τ .north) (directionO
 split τ h = split-dec τ h (decLt τ 1024)
 
 -- ---- the laws
-pub tangent-signs : (τ : ℕ) → τ ≤ 1792 → Signs (directionOf τ .north) (directionOf τ .east)
-tangent-signs τ h =
+-- T by its two sides, where S and the base are naturals
+whole : (R sine base : ℕ) → 0 < base → (R * sine / base * base ≤ R * sine) × (R * sine < (R * sine / base + 1) * base)
+whole R s b h = (div-mul-le-self (R * s) b, div-lt-iff-lt-mul {k = b} {x = R * s} {y = R * s / b + 1} h .0 (omega arith))
+
+pub is-tangent : (R τ : ℕ) → τ ≤ 1792 → IsTangent R τ (tangentOf R τ)
+unfolding tangentOf
+is-tangent R τ h =
+    let s = split τ h .sine in
+    let b = split τ h .base in
     let p = split τ h .parts in
+    let w = whole R s b (omega (arith, p .least)) in
     record {
-      sine = subst (λ (z : ℤ). pos 0 ≤ℤ z) (sym (p .sine-is)) (le (lit 0) (lit (split τ h .sine)) (omega arith));
-      base = subst (λ (z : ℤ). pos 1247 ≤ℤ z) (sym (p .base-is)) (le (lit 1247) (lit (split τ h .base)) (omega arith));
+      sine = rw (p .sine-is) (le (lit 0) (lit s) (omega arith));
+      base = rw (p .base-is) (lt (lit 0) (lit b) (omega (arith, p .least)));
+      low = rw (p .sine-is, p .base-is) (le (lit (R * s / b * b)) (lit (R * s)) (omega (arith, w .0)));
+      high = rw (p .sine-is, p .base-is) (lt (lit (R * s)) (lit ((R * s / b + 1) * b)) (omega (arith, w .1)));
     }
 
 -- in the terms of the code: the magnitudes of S and of 16,384 + C

@@ -1,9 +1,9 @@
 -- Document 01, "Fillets": the turn at a corner, its tangent length, and its arc. Assumes nothing.
 use mathlib.Core.Bool.{Bool}
-use Prim.Native.Nat.{ℕ, _-_, _*_, _/_, _≤_}
+use Prim.Native.Nat.{ℕ, _+_, _-_, _*_, _/_, _≤_}
 use lib.Dec.{leb}
-use lib.IntN.{pos, natAbs, _+ℤ_, _-ℤ_}
-use lib.Signed.{leZ}
+use lib.IntN.{pos, natAbs, _+ℤ_, _-ℤ_, _*ℤ_}
+use lib.Signed.{leZ, _≤ℤ_, _<ℤ_}
 use Rattle.integers.specs.Choose.{choose}
 use Rattle.integers.specs.Wrap.{wrapOf}
 use Rattle.course.specs.declared.Vector.{Vector}
@@ -26,10 +26,16 @@ turnBetween a b = lesserTurn (bearingOf a) (bearingOf b)
 unfoldable pub turnOf : Point → Point → Point → ℕ
 turnOf before point after = turnBetween (levelLegOf before point) (levelLegOf point after)
 
--- "(C, S) = D(τ); tangent length T = floor(R·S / (16,384 + C))". It is asked for τ up to 1,792 only, where S ≥ 0 and 16,384 + C > 0: the
--- law tangent-signs of proofs/TangentLaws.
+-- "(C, S) = D(τ); tangent length T = floor(R·S / (16,384 + C))". It is asked for τ up to 1,792 only, where S ≥ 0 and 16,384 + C > 0.
 unfoldable pub tangentOf : ℕ → ℕ → ℕ
 tangentOf R τ = R * natAbs (directionOf τ .east) / natAbs (pos 16384 +ℤ directionOf τ .north)
+
+-- the same without a quotient: what `tangent_length` promises of its answer T
+pub record IsTangent (R τ T : ℕ) : Type 0 where
+  pub sine : pos 0 ≤ℤ directionOf τ .east
+  pub base : pos 0 <ℤ (pos 16384 +ℤ directionOf τ .north)
+  pub low : (pos T *ℤ (pos 16384 +ℤ directionOf τ .north)) ≤ℤ (pos R *ℤ directionOf τ .east)
+  pub high : (pos R *ℤ directionOf τ .east) <ℤ (pos (T + 1) *ℤ (pos 16384 +ℤ directionOf τ .north))
 
 -- "Sense +1 when cross(a, b) ≥ 0, else −1": whether it is +1
 unfoldable pub rightOf : Vector → Vector → Bool

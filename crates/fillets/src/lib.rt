@@ -5,7 +5,7 @@ ghost use mathlib.Core.Path.{_≡_};
 ghost use Prim.Native.Nat.{_≤_, _<_};
 ghost use Rattle.course.specs.Vectors.{Near};
 ghost use Rattle.plane.specs.Area.{InArea};
-ghost use Rattle.fillets.specs.Corners.{lesserTurn, turnBetween, turnOf, tangentOf, rightOf, roundedOf, cornerOf, IsCorner};
+ghost use Rattle.fillets.specs.Corners.{lesserTurn, turnBetween, turnOf, tangentOf, IsTangent, rightOf, roundedOf, cornerOf, IsCorner};
 
 // The arc of a corner: its tangent length, whether it turns right (sense +1), where the line ends and begins again, and its centre.
 pub struct Corner {
@@ -48,7 +48,9 @@ pub fn turn_at(before: Point, point: Point, after: Point) -> usize
 // The tangent length of a turn.
 pub fn tangent_length(radius: u64, turn: usize) -> u64
     requires { ⌜ (radius ≤ 10000) × (turn ≤ 1792) ⌝ }
-    ensures { λ r. ⌜ (r ≡ tangentOf radius turn) × (r ≤ 50280) ⌝ }
+    ensures { λ r. ⌜ r ≡ tangentOf radius turn ⌝ }
+    ensures { λ r. ⌜ r ≤ 50280 ⌝ }
+    ensures { λ r. ⌜ IsTangent radius turn r ⌝ }
 {
     let d = course::direction(turn);
     let sine = integers::magnitude(d.east);

@@ -1,11 +1,11 @@
 -- The magnitude of a negation, a sum, a product, a quotient, a remainder and a square. Assumes nothing.
-use mathlib.Core.Path.{_≡_, refl, _∙_, ap}
+use mathlib.Core.Path.{_≡_, refl}
 use mathlib.Core.Bool.{cond, true, false, Bool, not}
 use Prim.Native.Nat.{ℕ, zero, suc, _+_, _-_, _*_, _/_, _%_, _≤_, _<_}
 use native.Mathlib.Nat.{le-refl}
 use native.Mathlib.Omega.{arith}
 use lib.Dec.{T, ltb, ltb→lt}
-use lib.IntN.{ℤ, pos, negsuc, negℤ, natAbs, subℕ, _+ℤ_, _-ℤ_, _*ℤ_, +ℤ-idl}
+use lib.IntN.{ℤ, pos, negsuc, negℤ, natAbs, subℕ, _+ℤ_, _*ℤ_}
 use lib.Signed.{mag, quotZ, remZ}
 
 pub abs-neg : (z : ℤ) → natAbs (negℤ z) ≡ natAbs z
@@ -47,10 +47,6 @@ abs-quot (negsuc a) (negsuc b) = refl
 pub abs-rem : (y z : ℤ) → natAbs (remZ y z) ≡ natAbs y % natAbs z
 abs-rem (pos a) z = refl
 abs-rem (negsuc a) z = abs-neg (pos (suc a % natAbs z))
-
--- `-x` in the code is 0 - x
-pub abs-minus : (z : ℤ) → natAbs (pos zero -ℤ z) ≡ natAbs z
-abs-minus z = ap natAbs (+ℤ-idl (negℤ z)) ∙ abs-neg z
 
 pub square : (z : ℤ) → z *ℤ z ≡ pos (natAbs z * natAbs z)
 square (pos n) = refl

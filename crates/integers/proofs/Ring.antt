@@ -7,7 +7,7 @@ use mathlib.Core.Bool.{Bool, true, false, cond}
 use Prim.Native.Nat.{ℕ, zero, suc, _+_, _-_, _*_, _≤_, _<_}
 use native.Mathlib.Omega.{arith}
 use lib.Dec.{ltb, leb→le, le→leb, ltb→lt, lt→ltb}
-use lib.IntN.{ℤ, pos, negsuc, negℤ, natAbs, subℕ, _+ℤ_, _-ℤ_, _*ℤ_}
+use lib.IntN.{ℤ, pos, negsuc, negℤ, subℕ, _+ℤ_, _-ℤ_, _*ℤ_}
 use lib.Signed.{_≤ℤ_, _<ℤ_}
 use borrow.Author.Tests.{ltb-true, ltb-false}
 use Rattle.integers.specs.Bounds.{Within}
@@ -147,23 +147,12 @@ lt-of {y} {z} h k e = omega (arith, h .balance, k .balance, parts-lt y z e)
 pub lt-le : {y z : ℤ} → y <ℤ z → y ≤ℤ z
 lt-le {y} {z} h = le (v y) (v z) (omega (arith, lt-of (v y) (v z) h))
 
--- how far |z| goes
-pub abs-parts : (z : ℤ) → natAbs z ≡ up z + down z
-abs-parts (pos n) = omega arith
-abs-parts (negsuc n) = omega arith
-
 -- a range on both sides of 0 is a bound
 pub within-range : (n : ℕ) (z : ℤ) → negℤ (pos n) ≤ℤ z → z ≤ℤ pos n → Within n z
 within-range n (pos k) h l = record { within = omega (arith, le-of (lit k) (lit n) l) }
 within-range n (negsuc k) h l = record { within = omega (arith, le-of (neg (lit n)) (v (negsuc k)) h) }
 
--- ---- products, signs and differences that are rewritten with
-pub neg-mul : (a b : ℤ) → negℤ a *ℤ b ≡ negℤ (a *ℤ b)
-neg-mul a b = same (mul (neg (v a)) (v b)) (neg (mul (v a) (v b))) (omega arith)
-
-pub mul-neg : (a b : ℤ) → a *ℤ negℤ b ≡ negℤ (a *ℤ b)
-mul-neg a b = same (mul (v a) (neg (v b))) (neg (mul (v a) (v b))) (omega arith)
-
+-- ---- differences of naturals
 -- the difference of two naturals, where it is not negative
 pub diff-le : (x y : ℕ) → y ≤ x → pos x -ℤ pos y ≡ pos (x - y)
 diff-le x y h = same (sub (lit x) (lit y)) (lit (x - y)) (omega arith)

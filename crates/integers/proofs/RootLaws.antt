@@ -1,5 +1,5 @@
 -- rootOf n is the floor of the square root of n, at every n, and nothing else is. Assumes nothing.
-use mathlib.Core.Path.{_≡_, refl}
+use mathlib.Core.Path.{_≡_, refl, sym, subst}
 use mathlib.Core.Bool.{Bool, true, false}
 use Prim.Native.Nat.{ℕ, zero, suc, _+_, _*_, _/_, _≤_, _<_}
 use native.Mathlib.Nat.{mul-le-mul, lt-of-not-le, not-le-of-lt, le-antisymm, lt-of-le-of-lt}
@@ -35,6 +35,10 @@ at-most n r s p q = omega (arith, square-lt r (s + 1) (lt-of-le-of-lt (p .low) (
 
 pub root-only : (n r : ℕ) → IsRoot n r → r ≡ rootOf n
 root-only n r p = le-antisymm (at-most n r (rootOf n) p (root-is n)) (at-most n (rootOf n) r (root-is n) p)
+
+-- what gives the root, and what the root is
+pub is-root : (n r : ℕ) → r ≡ rootOf n → (r ≡ rootOf n) × IsRoot n r
+is-root n r e = (e, subst (IsRoot n) (sym e) (root-is n))
 
 -- the root of what lies below a square
 pub root-lt : (n b : ℕ) → n < b * b → rootOf n < b

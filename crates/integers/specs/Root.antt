@@ -3,8 +3,8 @@ use Prim.Native.Nat.{ℕ, zero, suc, _+_, _*_, _/_, _≤_, _<_}
 use lib.Dec.{leb}
 use Rattle.integers.specs.Choose.{choose}
 
--- r is the floor of the square root of n: what a reader has to believe. That rootOf n is it, and that nothing else is, are the laws
--- root-is and root-only of proofs/RootLaws.
+-- r is the floor of the square root of n: what a reader has to believe, and what `root` promises of its answer. Nothing else than rootOf n is
+-- it: the law root-only of proofs/RootLaws, by which the code's answer is known.
 pub record IsRoot (n r : ℕ) : Type 0 where
   pub low : r * r ≤ n
   pub high : n < (r + 1) * (r + 1)

@@ -1,4 +1,5 @@
 -- The rounding of document 01's off: "each part to the nearest whole, halves away from zero". Assumes nothing.
+use mathlib.Core.Path.{_≡_}
 use Prim.Native.Nat.{suc, _+_, _/_}
 use lib.IntN.{ℤ, pos, negsuc, negℤ}
 
@@ -6,3 +7,10 @@ use lib.IntN.{ℤ, pos, negsuc, negℤ}
 unfoldable pub nearestOf : ℤ → ℤ
 nearestOf (pos n) = pos ((n + 8192) / 16384)
 nearestOf (negsuc n) = negℤ (pos ((suc n + 8192) / 16384))
+
+-- a half on either side of 0 goes away from it, and less than a half, or than one and a half, does not
+pub record HalvesAway : Type 0 where
+  pub half : nearestOf (pos 8192) ≡ pos 1
+  pub minusHalf : nearestOf (negsuc 8191) ≡ negsuc 0
+  pub under : nearestOf (pos 8191) ≡ pos 0
+  pub minusUnder : nearestOf (negsuc 24574) ≡ negsuc 0

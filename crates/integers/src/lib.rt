@@ -6,8 +6,8 @@ ghost use lib.IntN.{natAbs};
 ghost use mir.Syntax.{w32};
 ghost use mir.Val.{toZ, ofZ};
 ghost use Rattle.integers.specs.Floats.{bitsFrom};
-ghost use Rattle.integers.specs.Root.{rootOf};
-ghost use Rattle.integers.specs.Round.{nearestOf};
+ghost use Rattle.integers.specs.Root.{IsRoot, rootOf};
+ghost use Rattle.integers.specs.Round.{nearestOf, HalvesAway};
 ghost use Rattle.integers.specs.Wide.{IsProduct, IsTriple, Limbs, base, tripleOf};
 ghost use Rattle.integers.specs.Wrap.{wrapOf};
 
@@ -51,6 +51,7 @@ pub fn unsigned(z: i32) -> u32
 // x / 16,384 to the nearest whole number, halves away from zero.
 pub fn nearest(x: i64) -> i64
     ensures { λ r. ⌜ r ≡ nearestOf x ⌝ }
+    ensures { λ _. ⌜ HalvesAway ⌝ }
 {
     let size = ((magnitude(x) + 8192) / 16384) as i64;
     if x < 0 { 0 - size } else { size }
@@ -100,6 +101,7 @@ fn root_by_halves(n: u64) -> u64
 // The floor of the square root. Below 2^53 a number is a float exactly, and its root is guessed.
 pub fn root(n: u64) -> u64
     ensures { λ r. ⌜ r ≡ rootOf n ⌝ }
+    ensures { λ r. ⌜ IsRoot n r ⌝ }
 {
     if n < 9007199254740992 {
         let guess = near_root(n);

@@ -1,22 +1,18 @@
 -- Bounds of level vectors, their products, squares and roots. Assumes nothing.
-use mathlib.Core.Path.{_≡_, refl, sym, _∙_, ap}
-use mathlib.Core.Bool.{Bool, true, false}
-use Prim.Native.Nat.{ℕ, zero, suc, _+_, _*_, _≤_, _<_}
+use mathlib.Core.Path.{_≡_, refl}
+use Prim.Native.Nat.{ℕ, zero, suc, _+_, _*_, _≤_}
 use native.Mathlib.Omega.{arith}
-use lib.IntN.{ℤ, pos, negsuc, natAbs, negℤ, _+ℤ_, _-ℤ_, _*ℤ_}
+use lib.IntN.{ℤ, pos, negsuc, natAbs, _+ℤ_, _-ℤ_, _*ℤ_}
 use Rattle.integers.specs.Bounds.{Within}
-use Rattle.integers.specs.Choose.{choose}
-use Rattle.integers.specs.Wrap.{wrapOf}
 use Rattle.integers.proofs.BoundLaws.{within-plus, within-less, within-mul}
 use Rattle.integers.proofs.Magnitudes.{square}
 use Rattle.integers.proofs.RootLaws.{root-lt}
-use Rattle.integers.proofs.WrapLaws.{wrap-lt}
 use Rattle.course.specs.declared.Vector.{Vector}
 use Rattle.course.specs.Vectors.{Near, plain, cross}
 use Rattle.course.proofs.VectorLaws.{vector}
 use Rattle.plane.specs.declared.Point.{Point}
 use Rattle.plane.specs.Area.{InArea, levelOf}
-use Rattle.plane.specs.Level.{plus, minus, levelLegOf, dotOf, squareOf, lengthOf, sidewaysOf}
+use Rattle.plane.specs.Level.{plus, minus, levelLegOf, dotOf, squareOf, lengthOf}
 
 pub plus-near : (a b : Vector) {m n : ℕ} → Near m a → Near n b → Near (m + n) (plus a b)
 unfolding plus
@@ -57,11 +53,6 @@ square-zero v h = vector (zero-of (v .north) (omega (arith, square-sum v))) (zer
     zero-of (pos zero) h = refl
     zero-of (pos (suc n)) h = absurd (omega arith)
     zero-of (negsuc n) h = absurd (omega arith)
-
-pub sideways-low : (k : ℕ) (right : Bool) → sidewaysOf k right < 4096
-unfolding sidewaysOf choose
-sideways-low k true = wrap-lt (pos k +ℤ pos 1024)
-sideways-low k false = wrap-lt (pos k -ℤ pos 1024)
 
 pub length-le : (v : Vector) → Near 2000000 v → lengthOf v ≤ 2828427
 unfolding lengthOf

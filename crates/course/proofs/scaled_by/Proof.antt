@@ -29,7 +29,7 @@ returns c =
     let m = s .args .m in
     let d = s .args .d in
     let h : m ≤ 2147483647 = omega arith in
-    let e : c .nearest .result ≡ nearestOf (pos m *ℤ d) = c .nearest .ensures ∙ ap nearestOf (is (search value depth 20 fits 5000)) in
+    let e : c .nearest .result ≡ nearestOf (pos m *ℤ d) = c .nearest .ensures .0 ∙ ap nearestOf (is (search value depth 20 fits 5000)) in
     let w : Within m (nearestOf (pos m *ℤ d)) = part-within m d (s .pre .1) in
     let n : Within 2147483647 (c .nearest .result) = subst (Within 2147483647) (sym e) (within-le h w) in
     carried (via e (search value depth 20 fits 5000)) w

@@ -3,10 +3,10 @@ use mathlib.Core.Path.{_≡_, sym, ap, _∙_}
 use Prim.Native.Nat.{_≤_}
 use native.Mathlib.Omega.{arith}
 use borrow.Author.Needs.{needs}
-use Rattle.integers.proofs.BoundLaws.{overflow, carried}
+use Rattle.integers.proofs.BoundLaws.{overflow}
 use Rattle.integers.proofs.ValueLaws.{value, via}
 use Rattle.course.specs.Bearing.{signedOf, bearingOf}
-use Rattle.course.proofs.BearingLaws.{signed-low, signed-high, signed-within}
+use Rattle.course.proofs.BearingLaws.{signed-low, signed-high, signed-carried}
 use Rattle.course.proofs.signed_bearing.Statement.{statement}
 use Rattle.course.proofs.signed_bearing.Tie as tie
 
@@ -27,7 +27,7 @@ returns : tie.Need-returns
 returns c =
     let h = low (c .before) in
     let e = sym (signed-low (c .before .bearing .result) (c .if1 .taken)) ∙ same (c .before) in
-    carried (via e (search value depth 20 fits 5000)) (signed-within (c .before .before .args .v))
+    signed-carried (c .before .before .args .v) (via e (search value depth 20 fits 5000))
 
 cast-result-2 : tie.Need-cast-result-2
 cast-result-2 c = search needs
@@ -41,7 +41,7 @@ returns-2 : tie.Need-returns-2
 returns-2 c =
     let h = low (c .before) in
     let e = sym (signed-high (c .before .bearing .result) (c .if1 .left)) ∙ same (c .before) in
-    carried (via e (search value depth 20 fits 5000)) (signed-within (c .before .before .args .v))
+    signed-carried (c .before .before .args .v) (via e (search value depth 20 fits 5000))
 
 pub signed-bearing-spec : {M : Type 1} → statement M
 signed-bearing-spec =

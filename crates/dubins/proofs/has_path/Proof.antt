@@ -1,7 +1,8 @@
--- `has_path` decides whether any case exists. Assumes nothing.
+-- `has_path` decides whether any case exists, and each does exactly when document 01 says. Assumes nothing.
 use mathlib.Core.Path.{sym, _∙_}
 use borrow.Author.Needs.{needs}
 use Rattle.dubins.specs.Choice.{hasPathOf}
+use Rattle.dubins.proofs.FarLaws.{existence}
 use Rattle.dubins.proofs.has_path.Statement.{statement}
 use Rattle.dubins.proofs.has_path.Tie as tie
 
@@ -10,7 +11,7 @@ case-exists-requires c κs = search needs
 
 returns : tie.Need-returns
 unfolding hasPathOf
-returns c = simp (sym (c .before .case-exists .ensures) ∙ c .if1 .taken)
+returns c = (simp (sym (c .before .case-exists .ensures) ∙ c .if1 .taken), existence _)
 
 case-exists-requires-2 : tie.Need-case-exists-requires-2
 case-exists-requires-2 c κs = search needs
@@ -19,7 +20,7 @@ returns-2 : tie.Need-returns-2
 unfolding hasPathOf
 returns-2 c =
     let b = c .before .before in
-    simp (sym (b .before .case-exists .ensures) ∙ b .if1 .left, sym (c .before .case-exists2 .ensures) ∙ c .if2 .taken)
+    (simp (sym (b .before .case-exists .ensures) ∙ b .if1 .left, sym (c .before .case-exists2 .ensures) ∙ c .if2 .taken), existence _)
 
 case-exists-requires-3 : tie.Need-case-exists-requires-3
 case-exists-requires-3 c κs = search needs
@@ -29,7 +30,7 @@ unfolding hasPathOf
 returns-3 c =
     let b = c .before .before in
     let a = b .before .before in
-    simp (sym (a .before .case-exists .ensures) ∙ a .if1 .left, sym (b .before .case-exists2 .ensures) ∙ b .if2 .left, sym (c .before .case-exists3 .ensures) ∙ c .if3 .taken)
+    (simp (sym (a .before .case-exists .ensures) ∙ a .if1 .left, sym (b .before .case-exists2 .ensures) ∙ b .if2 .left, sym (c .before .case-exists3 .ensures) ∙ c .if3 .taken), existence _)
 
 case-exists-requires-4 : tie.Need-case-exists-requires-4
 case-exists-requires-4 c κs = search needs
@@ -39,8 +40,10 @@ unfolding hasPathOf
 returns-4 c =
     let d = c .before in
     let b = d .before .before in
-    let a = b .before .before in
-    c .case-exists4 .ensures ∙ simp (sym (a .before .case-exists .ensures) ∙ a .if1 .left, sym (b .before .case-exists2 .ensures) ∙ b .if2 .left, sym (d .before .case-exists3 .ensures) ∙ d .if3 .left)
+    let a = b .before .before in (
+      c .case-exists4 .ensures ∙ simp (sym (a .before .case-exists .ensures) ∙ a .if1 .left, sym (b .before .case-exists2 .ensures) ∙ b .if2 .left, sym (d .before .case-exists3 .ensures) ∙ d .if3 .left),
+      existence _,
+    )
 
 pub has-path-spec : {M : Type 1} → statement M
 has-path-spec =

@@ -1,9 +1,9 @@
 -- `shortest_path` gives the shortest of the four cases, the earliest on a tie. Assumes nothing.
-use mathlib.Core.Path.{_∙_}
+use mathlib.Core.Path.{_≡_, _∙_}
 use borrow.Author.Needs.{needs}
 use Rattle.dubins.specs.Choice.{shortestOf}
 use Rattle.dubins.specs.Ways.{foundBy}
-use Rattle.dubins.proofs.ShortestLaws.{only-later}
+use Rattle.dubins.proofs.ShortestLaws.{only-later, chosen}
 use Rattle.dubins.proofs.shortest_path.Statement.{statement}
 use Rattle.dubins.proofs.shortest_path.Tie as tie
 
@@ -31,11 +31,12 @@ found-by-requires c κs = search needs
 returns : tie.Need-returns
 unfolding shortestOf foundBy
 returns c =
-    let d = c .before in (
-      c .found-by .ensures .0
-          ∙ simp (d .better4 .ensures .0, d .before .better3 .ensures .0, d .before .before .better2 .ensures .0, d .before .before .before .better .ensures .0, only-later),
-      c .found-by .ensures .1,
-    )
+    let d = c .before in
+    let s = d .before .before .before .before .before .before .before .before in
+    let e : c .found-by .result ≡ shortestOf (s .args .ends) =
+    c .found-by .ensures .0
+    ∙ simp (d .better4 .ensures .0, d .before .better3 .ensures .0, d .before .before .better2 .ensures .0, d .before .before .before .better .ensures .0, only-later) in
+    (e, (c .found-by .ensures .1, chosen _ _ e))
 
 pub shortest-path-spec : {M : Type 1} → statement M
 shortest-path-spec =

@@ -43,11 +43,11 @@ sized s e = (e, omega (arith, e, straight-le (s .args .case) (s .args .radius) (
 
 returns : tie.Need-returns
 unfolding straightOf choose
-returns c = sized (c .before .before .before .before) (simp (sym (c .before .before .same-side .ensures) ∙ c .before .if1 .taken, c .root .ensures, c .before .before .before .squared .ensures .0))
+returns c = sized (c .before .before .before .before) (simp (sym (c .before .before .same-side .ensures) ∙ c .before .if1 .taken, c .root .ensures .0, c .before .before .before .squared .ensures .0))
 
 returns-2 : tie.Need-returns-2
 unfolding straightOf choose
-returns-2 c = sized (c .before .before .before .before) (simp (sym (c .before .before .same-side .ensures) ∙ c .before .if1 .left, c .root2 .ensures, c .before .before .before .squared .ensures .0))
+returns-2 c = sized (c .before .before .before .before) (simp (sym (c .before .before .same-side .ensures) ∙ c .before .if1 .left, c .root2 .ensures .0, c .before .before .before .squared .ensures .0))
 
 pub straight-spec : {M : Type 1} → statement M
 straight-spec =

@@ -31,7 +31,7 @@ signed-bearing-requires c κs = record { north = search bound depth 20 fits 5000
 returns : tie.Need-returns
 unfolding circleAngle
 returns c =
-    passed-on (c .signed-bearing .ensures .0 ∙ ap signedBearingOf (vector (is (search (value, uneven) depth 20 fits 5000)) (is (search (value, uneven) depth 20 fits 5000))), c .signed-bearing .ensures .1) tt
+    passed-on (c .signed-bearing .ensures .0 ∙ ap signedBearingOf (vector (is (search (value, uneven) depth 20 fits 5000)) (is (search (value, uneven) depth 20 fits 5000))), c .signed-bearing .ensures .1 .0) tt
 
 pub circle-angle-spec : {M : Type 1} → statement M
 circle-angle-spec =

@@ -41,7 +41,7 @@ returns c =
     let h : 500 * l .result ≤ 1414213500 = omega (arith, l .ensures .1) in
     let n : toZ w64 (500 * l .result) ≡ pos (500 * lengthOf (s .q)) = via (ap (λ (m : ℕ). pos (500 * m)) (l .ensures .0)) (search value depth 20 fits 5000) in
     let e = kept w64 (x .ensures .1) tt ∙ x .ensures .0 in
-    passed-on (c .signed-bearing .ensures .0 ∙ ap signedBearingOf (vector n e), c .signed-bearing .ensures .1) tt
+    passed-on (c .signed-bearing .ensures .0 ∙ ap signedBearingOf (vector n e), c .signed-bearing .ensures .1 .0) tt
 
 pub line-angle-spec : {M : Type 1} → statement M
 line-angle-spec =

@@ -9,7 +9,7 @@ use borrow.Author.Needs.{needs}
 use Rattle.integers.proofs.BoundLaws.{overflow}
 use Rattle.integers.proofs.ValueLaws.{value, via}
 use Rattle.integers.proofs.Tests.{lt-yes, lt-no}
-use Rattle.integers.proofs.RoundLaws.{nearest-neg, nearest-pos}
+use Rattle.integers.proofs.RoundLaws.{nearest-neg, nearest-pos, halves-away}
 use Rattle.integers.proofs.nearest.Statement.{statement}
 use Rattle.integers.proofs.nearest.Tie as tie
 
@@ -39,7 +39,7 @@ returns c =
     let fx = c .before .before .fits .x in
     let h = rounded-le (c .before) in
     let e = nearest-neg x (lt-yes x (pos 0) (simp toZ-ofZ at (c .if1 .taken))) in
-    via (ap (λ (n : ℕ). negℤ (pos ((n + 8192) / 16384))) (size-is (c .before)) ∙ e) (search value depth 20 fits 5000)
+    (via (ap (λ (n : ℕ). negℤ (pos ((n + 8192) / 16384))) (size-is (c .before)) ∙ e) (search value depth 20 fits 5000), halves-away)
 
 returns-2 : tie.Need-returns-2
 returns-2 c =
@@ -47,7 +47,7 @@ returns-2 c =
     let fx = c .before .before .fits .x in
     let h = rounded-le (c .before) in
     let e = nearest-pos x (lt-no x (pos 0) (simp toZ-ofZ at (c .if1 .left))) in
-    via (ap (λ (n : ℕ). pos ((n + 8192) / 16384)) (size-is (c .before)) ∙ e) (search value depth 20 fits 5000)
+    (via (ap (λ (n : ℕ). pos ((n + 8192) / 16384)) (size-is (c .before)) ∙ e) (search value depth 20 fits 5000), halves-away)
 
 pub nearest-spec : {M : Type 1} → statement M
 nearest-spec =

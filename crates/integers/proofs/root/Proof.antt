@@ -2,7 +2,8 @@
 use Prim.Native.Nat.{ℕ, _+_, _*_, _≤_, _<_}
 use native.Mathlib.Omega.{arith}
 use borrow.Author.Needs.{needs}
-use Rattle.integers.proofs.RootLaws.{root-only, square-fits}
+use Rattle.integers.specs.Root.{IsRoot}
+use Rattle.integers.proofs.RootLaws.{root-only, is-root, square-fits}
 use Rattle.integers.proofs.root.Statement.{statement}
 use Rattle.integers.proofs.root.Tie as tie
 
@@ -16,13 +17,13 @@ mul-if3 : tie.Need-mul-if3
 mul-if3 c = search needs
 
 returns : tie.Need-returns
-returns c = root-only _ _ (record { low = c .before .if2 .taken; high = omega arith })
+returns c = let h : IsRoot _ _ = record { low = c .before .if2 .taken; high = omega arith } in (root-only _ _ h, h)
 
 root-by-halves-requires : tie.Need-root-by-halves-requires
 root-by-halves-requires c κs = search needs
 
 returns-2 : tie.Need-returns-2
-returns-2 c = search needs
+returns-2 c = is-root _ _ (c .root-by-halves .ensures)
 
 pub root-spec : {M : Type 1} → statement M
 root-spec =

@@ -18,7 +18,7 @@ returns : tie.Need-returns
 unfolding lengthOf
 returns c =
     let s = c .before .before in
-    let e : c .root .result ≡ lengthOf (s .args .v) = c .root .ensures ∙ ap rootOf (c .before .squared .ensures .0) in
+    let e : c .root .result ≡ lengthOf (s .args .v) = c .root .ensures .0 ∙ ap rootOf (c .before .squared .ensures .0) in
     (e, omega (arith, e, length-le (s .args .v) (s .pre)))
 
 pub length-spec : {M : Type 1} → statement M
