@@ -3,15 +3,16 @@
 use mathlib.Core.Bool.{Bool, true, false}
 use Prim.Native.Nat.{ℕ}
 use lib.IntN.{ℤ, pos, negsuc}
+use lib.Ieee.{Float}
 use Rattle.course.specs.declared.Vector.{Vector}
 use Rattle.course.specs.Direction.{directionOf}
 use Rattle.plane.specs.declared.Point.{Point}
 use Rattle.plane.specs.declared.Leg.{Leg}
 use Rattle.plane.specs.Area.{legOf, levelOf}
-use Rattle.units.specs.Metres.{metresOf, directionPartOf}
+use Rattle.units.specs.Metres.{metresOf, directionPartOf, Plain}
 use Rattle.guidance.specs.declared.Metres.{Metres}
 use Rattle.guidance.specs.declared.Command.{Command}
-use Rattle.guidance.specs.declared.Command.the-variants.{Line, Circle}
+use Rattle.guidance.specs.declared.Command.the-variants.{Line, Circle, Nothing}
 
 -- +1 for clockwise, else −1
 abbrev pub senseOf : Bool → ℤ
@@ -37,3 +38,32 @@ courseCommand z1 down θ =
 
 unfoldable pub circleCommand : Vector → ℤ → ℕ → Bool → Command
 circleCommand centre down R right = Circle (placeMetres centre down) (metresOf (pos R)) (senseOf right)
+
+-- ---- "Commands are equal bit for bit": every number of a command is a finite f32 and not −0.0
+pub record PlainMetres (m : Metres) : Type 0 where
+  pub north : Plain (m .north)
+  pub east : Plain (m .east)
+  pub down : Plain (m .down)
+
+abbrev pub PlainCommand : Command → Type 0
+PlainCommand (Line start direction) = PlainMetres start × PlainMetres direction
+PlainCommand (Circle centre radius sense) = PlainMetres centre × Plain radius
+PlainCommand Nothing = Unit {0}
+
+-- there is something to follow
+abbrev pub HasCommand : Command → Type 0
+HasCommand (Line start direction) = Unit {0}
+HasCommand (Circle centre radius sense) = Unit {0}
+HasCommand Nothing = ⊥
+
+-- both
+pub record IsCommand (c : Command) : Type 0 where
+  pub there : HasCommand c
+  pub plain : PlainCommand c
+
+-- what these are, said from outside: each number of a line and of a circle is plain, and Nothing is no command
+pub record CommandMeans : Type 0 where
+  pub metres : (m : Metres) → PlainMetres m → Plain (m .north) × (Plain (m .east) × Plain (m .down))
+  pub line : (start direction : Metres) → PlainCommand (Line start direction) → PlainMetres start × PlainMetres direction
+  pub circle : (centre : Metres) (radius : Float) (sense : ℤ) → PlainCommand (Circle centre radius sense) → PlainMetres centre × Plain radius
+  pub nothing : HasCommand Nothing → ⊥

@@ -13,7 +13,7 @@ ghost use Rattle.course.specs.Vectors.{Near};
 ghost use Rattle.plane.specs.Area.{InArea, IsLeg};
 ghost use Rattle.fillets.specs.Corners.{turnOf, IsCorner};
 ghost use Rattle.dubins.specs.Limits.{IsEnds, IsPath};
-ghost use Rattle.guidance.specs.Commands.{senseOf, placeMetres, legMetres, lineCommand, courseCommand, circleCommand};
+ghost use Rattle.guidance.specs.Commands.{senseOf, placeMetres, legMetres, lineCommand, courseCommand, circleCommand, CommandMeans};
 ghost use Rattle.guidance.specs.Guide.{fromOf, reachedOf, shortOf, legHeading, legGuide, lineGuide, pastOf, filletLine, filletCircle, filletGuide, legEnded, lastLegGuide, circleGuide, straightGuide, startPassed, endPassed, dubinsGuide};
 
 // A place or a direction, in metres.
@@ -106,7 +106,7 @@ fn sense(right: bool) -> i8
 // The circle at the height of p.
 fn circle_command(centre: Vector, p: Point, radius: u64, right: bool) -> Command
     requires { ⌜ Near 1000000 centre × (InArea p × (radius ≤ 10000)) ⌝ }
-    ensures { λ r. ⌜ r ≡ circleCommand centre (p .down) radius right ⌝ }
+    ensures { λ r. ⌜ (r ≡ circleCommand centre (p .down) radius right) × CommandMeans ⌝ }
 {
     let place = place_metres(centre, p);
     Command::Circle {

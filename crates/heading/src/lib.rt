@@ -5,6 +5,7 @@ ghost use Prim.Native.Nat.{_≤_, _<_};
 ghost use Rattle.integers.specs.Bounds.{Within};
 ghost use Rattle.course.specs.Vectors.{Near};
 ghost use Rattle.heading.specs.Heading.{lineAngle, lineHeading, circleAngle, roundHeading, circleHeading};
+ghost use Rattle.heading.specs.Examples.{LineExamples, CircleExamples};
 
 // How far the line law leans toward the line: b of a line with direction q, d from its start.
 fn line_angle(q: Vector, d: Vector) -> i64
@@ -19,7 +20,7 @@ fn line_angle(q: Vector, d: Vector) -> i64
 // The heading on a line with level direction q, d from its start.
 pub fn line_heading(q: Vector, d: Vector) -> usize
     requires { ⌜ Near 1000000 q × Near 2000000 d ⌝ }
-    ensures { λ r. ⌜ (r ≡ lineHeading q d) × (r < 4096) ⌝ }
+    ensures { λ r. ⌜ (r ≡ lineHeading q d) × ((r < 4096) × LineExamples) ⌝ }
 {
     let b = line_angle(q, d);
     let k = course::bearing(q);
@@ -51,7 +52,7 @@ fn round_heading(k: usize, right: bool, b: i64) -> usize
 // The heading on a circle, d from its centre; right where its sense is +1.
 pub fn circle_heading(d: Vector, radius: u64, right: bool) -> usize
     requires { ⌜ Near 2000000 d × (radius ≤ 10000) ⌝ }
-    ensures { λ r. ⌜ (r ≡ circleHeading d radius right) × (r < 4096) ⌝ }
+    ensures { λ r. ⌜ (r ≡ circleHeading d radius right) × ((r < 4096) × CircleExamples) ⌝ }
 {
     let b = circle_angle(radius, plane::length(d));
     let k = course::bearing(d);

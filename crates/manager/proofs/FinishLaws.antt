@@ -1,5 +1,5 @@
 -- A flight of any mode can be finished, and stays so: `Finishes` holds of every state and fix. Assumes nothing.
-use mathlib.Core.Path.{_≡_, refl, sym, ap, _∙_, subst}
+use mathlib.Core.Path.{_≡_, refl, sym, ap, _∙_}
 use mathlib.Core.Bool.{Bool, true, false}
 use Prim.Native.Nat.{ℕ, _-_, _<_}
 use native.Mathlib.Omega.{arith}
@@ -138,7 +138,3 @@ step-stays s serial fix f =
 
 pub finishes : (s : State) (serial : ℕ) (fix : Fix) → Finishes s fix (stepOf s serial fix)
 finishes s serial fix = record { sets = sets s serial fix; stays = step-stays s serial fix }
-
--- an equation, and with it the end
-pub step-promise : (s : State) (serial : ℕ) (fix : Fix) {r : Stepped} → r ≡ stepOf s serial fix → (r ≡ stepOf s serial fix) × Finishes s fix r
-step-promise s serial fix e = (e, subst (Finishes s fix) (sym e) (finishes s serial fix))

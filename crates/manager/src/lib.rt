@@ -26,6 +26,7 @@ ghost use Rattle.plan.specs.Stands.{Placed, Aiming, Long};
 ghost use Rattle.manager.specs.State.{emptyState, firstProgress, viewed, lastIndex, onLastLeg, lastPhase, atEnd, indexFits, phaseFits, endFits, placedOf, validOf, Valid};
 ghost use Rattle.manager.specs.Step.{pathGuide, guideHere, nextOf, steppedBy, refusedAt, answered, movedOf, stepOf};
 ghost use Rattle.manager.specs.Finish.{Finishes};
+ghost use Rattle.manager.specs.Flies.{Flies, StartsAt, Empty};
 
 // How far a plan is flown: the index of the point that is flown to, from 1, the phase there, and whether the end was reached.
 pub struct Progress {
@@ -65,7 +66,7 @@ pub struct Stepped {
 
 // The state of no plan, which every fix and write refuses.
 pub fn empty() -> State
-    ensures { λ r. ⌜ r ≡ emptyState ⌝ }
+    ensures { λ r. ⌜ (r ≡ emptyState) × Empty r ⌝ }
 {
     let head = Head {
         serial: 0,
@@ -90,7 +91,7 @@ pub fn empty() -> State
 
 // How far a plan is flown at its start.
 pub fn first() -> Progress
-    ensures { λ r. ⌜ r ≡ firstProgress ⌝ }
+    ensures { λ r. ⌜ (r ≡ firstProgress) × StartsAt r ⌝ }
 {
     Progress {
         index: 2,
@@ -399,7 +400,7 @@ pub fn decide<'a>(
 impl State {
     // One fix of a state, which lends its own numbers.
     pub fn step(self, serial: u32, fix: Fix) -> Stepped
-        ensures { λ r. ⌜ (r ≡ stepOf self serial fix) × Finishes self fix r ⌝ }
+        ensures { λ r. ⌜ (r ≡ stepOf self serial fix) × (Finishes self fix r × Flies self serial fix r) ⌝ }
     {
         let plan = self.plan;
         let head = self.plan.head;

@@ -21,7 +21,7 @@ use mir.Syntax.{w64}
 use mir.Val.{toZ, ofZ}
 use Rattle.integers.specs.Bounds.{Within}
 use Rattle.integers.proofs.BoundLaws.{within-weaken}
-use Rattle.units.specs.Metres.{quotientOf, metresOf, directionPartOf, Exactly, Plain}
+use Rattle.units.specs.Metres.{quotientOf, metresOf, directionPartOf, RoundedOnce, Exactly, Plain, PlainMeans}
 use Rattle.units.proofs.ConversionLaws.{read-back, converted}
 
 -- ---- where a value is not zero, its digits are not
@@ -48,7 +48,7 @@ divided (fin t m e) (fin false k g) s n c p v w =
     (round-same binary32 t (m * up e * down g) (k * up g * down e) n c (mul-pos (mul-pos h (up-pos g)) (down-pos e)) p (crossed (m * up e) (down e) (k * up g) (down g) n c (v .1) (w .1))
     ∙ ap (λ (b : Bool). round binary32 b n c) (v .0))
 
-pub quotient-rounded : (z : ℤ) (c : ℕ) → Within 16777216 z → 0 < c → c ≤ 16777216 → quotientOf z c ≡ round binary32 (not (nonNeg z)) (natAbs z) c
+quotient-rounded : (z : ℤ) (c : ℕ) → Within 16777216 z → 0 < c → c ≤ 16777216 → quotientOf z c ≡ round binary32 (not (nonNeg z)) (natAbs z) c
 unfolding quotientOf
 quotient-rounded z c h p l = divided (ofInt binary32 z) (ofInt binary32 (pos c)) (not (nonNeg z)) (natAbs z) c p (converted z h) (converted (pos c) (record { within = l }))
 
@@ -128,15 +128,21 @@ pub direction-plain : (x : ℤ) → Within 16384 x → Plain (directionPartOf x)
 unfolding directionPartOf
 direction-plain x h = quotient-plain x 16384 (within-weaken h tt) (lit< tt) (lit≤ tt)
 
--- zero is +0.0
-pub metres-zero : metresOf (pos 0) ≡ fin false 0 (pos 0)
-unfolding metresOf quotientOf div ofInt
-metres-zero = refl
+-- ---- what plain numbers are
+pub plain-means : PlainMeans
+unfolding isNan
+plain-means =
+    record {
+      no-nan = λ p. true≢false (p .number);
+      no-infinity = λ s p. p .finite s refl;
+      no-minus-zero = λ p. p .no-minus-zero (pos 0) refl;
+      same-bits = λ x y p q e. sym (ofBits-toBits binary32 x (p .held)) ∙ ap (ofBits binary32) e ∙ ofBits-toBits binary32 y (q .held);
+    }
 
-pub direction-zero : directionPartOf (pos 0) ≡ fin false 0 (pos 0)
-unfolding directionPartOf quotientOf div ofInt
-direction-zero = refl
+-- ---- the promises of `metres` and `direction_part`
+pub metres-promise : {r : Float} {d : ℤ} → Within 1000000 d → r ≡ metresOf d → (r ≡ metresOf d) × (RoundedOnce r d 10 × (Plain r × PlainMeans))
+unfolding metresOf
+metres-promise {r} {d} h e = (e, (e ∙ quotient-rounded d 10 (within-weaken h tt) (lit< tt) (lit≤ tt), (subst Plain (sym e) (metres-plain d h), plain-means)))
 
--- ---- equal bits are equal numbers
-pub same-bits : {x y : Float} → Plain x → Plain y → toBits binary32 x ≡ toBits binary32 y → x ≡ y
-same-bits {x} {y} p q e = sym (ofBits-toBits binary32 x (p .held)) ∙ ap (ofBits binary32) e ∙ ofBits-toBits binary32 y (q .held)
+pub direction-promise : {r : Float} {x : ℤ} → Within 16384 x → r ≡ directionPartOf x → (r ≡ directionPartOf x) × (Exactly r x 16384 × Plain r)
+direction-promise {r} {x} h e = (e, (subst (λ (y : Float). Exactly y x 16384) (sym e) (direction-exact x h), subst Plain (sym e) (direction-plain x h)))

@@ -6,7 +6,7 @@ ghost use Rattle.integers.specs.Bounds.{Within};
 ghost use Rattle.units.specs.Decimetres.{decimetresOf, inLimit};
 ghost use Rattle.units.specs.Pattern.{fieldOf, unsignedDecimetres};
 ghost use Rattle.units.specs.Position.{allInLimit, positionOf, IsPosition};
-ghost use Rattle.units.specs.Metres.{metresOf, directionPartOf, Exactly};
+ghost use Rattle.units.specs.Metres.{metresOf, directionPartOf, RoundedOnce, Exactly, Plain, PlainMeans};
 
 // A position fix, in metres.
 pub struct Fix {
@@ -77,7 +77,7 @@ pub fn locate(fix: Fix) -> Position
 // d decimetres in metres.
 pub fn metres(d: i64) -> f32
     requires { ⌜ Within 1000000 d ⌝ }
-    ensures { λ r. ⌜ r ≡ metresOf d ⌝ }
+    ensures { λ r. ⌜ (r ≡ metresOf d) × (RoundedOnce r d 10 × (Plain r × PlainMeans)) ⌝ }
 {
     (d as f32) / 10.0
 }
@@ -85,7 +85,7 @@ pub fn metres(d: i64) -> f32
 // A part of a direction D(k), which counts 1/16,384.
 pub fn direction_part(x: i64) -> f32
     requires { ⌜ Within 16384 x ⌝ }
-    ensures { λ r. ⌜ (r ≡ directionPartOf x) × Exactly r x 16384 ⌝ }
+    ensures { λ r. ⌜ (r ≡ directionPartOf x) × (Exactly r x 16384 × Plain r) ⌝ }
 {
     (x as f32) / 16384.0
 }

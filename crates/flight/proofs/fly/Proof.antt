@@ -22,7 +22,7 @@ returns : tie.Need-returns
 returns c =
     let t = c .before in
     let f = flies-not _ _ _ _ _ _ (sym (t .before .fits2 .ensures) ∙ not-true _ (t .if1 .taken)) in
-    (ap (λ (s : State). record { refusal = 100; place = 0; state = s }) (c .empty .ensures) ∙ f .flown, (f .answered, (f .commanded, (λ r o z. two-flights _ _ _ _ _ r o z, (demand, anchored)))))
+    (ap (λ (s : State). record { refusal = 100; place = 0; state = s }) (c .empty .ensures .0) ∙ f .flown, (f .answered, (f .commanded, (λ r o z. two-flights _ _ _ _ _ r o z, (demand, anchored)))))
 
 load-requires : tie.Need-load-requires
 load-requires c κs = search needs

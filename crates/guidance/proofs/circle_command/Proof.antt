@@ -8,6 +8,7 @@ use Rattle.integers.proofs.ValueLaws.{value, is}
 use Rattle.units.specs.Metres.{metresOf}
 use Rattle.guidance.specs.declared.Command.the-variants.{Circle}
 use Rattle.guidance.specs.Commands.{senseOf, circleCommand}
+use Rattle.guidance.proofs.CommandLaws.{command-means}
 use Rattle.guidance.proofs.circle_command.Statement.{statement}
 use Rattle.guidance.proofs.circle_command.Tie as tie
 
@@ -26,8 +27,8 @@ sense-requires c κs = search needs
 returns : tie.Need-returns
 unfolding circleCommand
 returns c =
-    let r = c .before .metres .ensures ∙ ap metresOf {y = pos (c .before .before .before .args .radius)} (is (search value depth 20 fits 5000)) in
-    λ i. Circle (c .before .before .place-metres .ensures i) (r i) ((kept w8 (c .sense .ensures .1) tt ∙ c .sense .ensures .0) i)
+    let r = c .before .metres .ensures .0 ∙ ap metresOf {y = pos (c .before .before .before .args .radius)} (is (search value depth 20 fits 5000)) in
+    (λ i. Circle (c .before .before .place-metres .ensures i) (r i) ((kept w8 (c .sense .ensures .1) tt ∙ c .sense .ensures .0) i), command-means)
 
 pub circle-command-spec : {M : Type 1} → statement M
 circle-command-spec =

@@ -22,7 +22,7 @@ returns c =
     let s = c .before .before .before .args in
     let h = c .circle-heading .ensures in
     let e = h .0 ∙ ap (λ (v : Vector). circleHeading v (s .radius) (s .right)) (c .before .from .ensures .0) in
-    (λ i. record { command = c .before .before .circle-command .ensures i; heading = e i; passed = s .passed }, h .1)
+    (λ i. record { command = c .before .before .circle-command .ensures .0 i; heading = e i; passed = s .passed }, h .1 .0)
 
 pub circle-guide-spec : {M : Type 1} → statement M
 circle-guide-spec =

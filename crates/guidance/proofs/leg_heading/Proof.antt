@@ -25,7 +25,7 @@ returns c =
     let f = c .before in
     let p = f .before .before .before .args .at in
     let h = c .line-heading .ensures in
-    (h .0 ∙ (λ i. lineHeading (f .before .before .level-leg .ensures .0 i) ((f .from .ensures .0 ∙ ap (λ (v : Vector). fromOf v p) (f .before .level .ensures .0)) i)), h .1)
+    (h .0 ∙ (λ i. lineHeading (f .before .before .level-leg .ensures .0 i) ((f .from .ensures .0 ∙ ap (λ (v : Vector). fromOf v p) (f .before .level .ensures .0)) i)), h .1 .0)
 
 pub leg-heading-spec : {M : Type 1} → statement M
 leg-heading-spec =

@@ -22,9 +22,9 @@ unfolding legMetres
 returns c =
     let s = c .before .before .before .before .before .before in
     let h = s .pre in
-    let n = c .before .before .before .before .metres .ensures ∙ ap metresOf (kept w64 (h .north) tt) in
-    let e = c .before .before .metres2 .ensures ∙ ap metresOf (kept w64 (h .east) tt) in
-    let d = c .metres3 .ensures ∙ ap metresOf (kept w64 (h .down) tt) in
+    let n = c .before .before .before .before .metres .ensures .0 ∙ ap metresOf (kept w64 (h .north) tt) in
+    let e = c .before .before .metres2 .ensures .0 ∙ ap metresOf (kept w64 (h .east) tt) in
+    let d = c .metres3 .ensures .0 ∙ ap metresOf (kept w64 (h .down) tt) in
     λ i. record { north = n i; east = e i; down = d i }
 
 pub leg-metres-spec : {M : Type 1} → statement M

@@ -28,9 +28,9 @@ unfolding placeMetres
 returns c =
     let s = c .before .before .before .before .before .before .before in
     let v = s .pre .0 in
-    let n = c .before .before .before .before .before .metres .ensures ∙ ap metresOf (kept w64 (v .north) tt) in
-    let e = c .before .before .before .metres2 .ensures ∙ ap metresOf (kept w64 (v .east) tt) in
-    let d = c .metres3 .ensures ∙ ap metresOf {y = s .args .p .down} (is (search value depth 20 fits 5000)) in
+    let n = c .before .before .before .before .before .metres .ensures .0 ∙ ap metresOf (kept w64 (v .north) tt) in
+    let e = c .before .before .before .metres2 .ensures .0 ∙ ap metresOf (kept w64 (v .east) tt) in
+    let d = c .metres3 .ensures .0 ∙ ap metresOf {y = s .args .p .down} (is (search value depth 20 fits 5000)) in
     λ i. record { north = n i; east = e i; down = d i }
 
 pub place-metres-spec : {M : Type 1} → statement M

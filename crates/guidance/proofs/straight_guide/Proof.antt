@@ -27,7 +27,7 @@ returns c =
     let h = c .before .line-heading .ensures in
     let d = c .before .before .before .before in
     let e = h .0 ∙ (λ i. lineHeading (d .direction .ensures .0 i) (c .before .before .from .ensures .0 i)) in
-    (λ i. record { command = c .before .before .before .course-command .ensures i; heading = e i; passed = c .reached .ensures i }, h .1)
+    (λ i. record { command = c .before .before .before .course-command .ensures i; heading = e i; passed = c .reached .ensures i }, h .1 .0)
 
 pub straight-guide-spec : {M : Type 1} → statement M
 straight-guide-spec =

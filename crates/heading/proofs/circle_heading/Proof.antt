@@ -4,6 +4,7 @@ use mir.Syntax.{w64}
 use borrow.Author.Needs.{needs}
 use Rattle.integers.proofs.BoundLaws.{kept}
 use Rattle.heading.specs.Heading.{circleAngle, roundHeading, circleHeading}
+use Rattle.heading.proofs.ExampleLaws.{circle-examples}
 use Rattle.heading.proofs.circle_heading.Statement.{statement}
 use Rattle.heading.proofs.circle_heading.Tie as tie
 
@@ -27,7 +28,7 @@ returns c =
     let l = c .before .before .before .length in
     let k = c .before .bearing in
     let e = kept w64 (b .ensures .1) tt ∙ b .ensures .0 ∙ ap (circleAngle (s .radius)) (l .ensures .0) in
-    (c .round-heading .ensures .0 ∙ (λ i. roundHeading (k .ensures .value i) (s .right) (e i)), c .round-heading .ensures .1)
+    (c .round-heading .ensures .0 ∙ (λ i. roundHeading (k .ensures .value i) (s .right) (e i)), (c .round-heading .ensures .1, circle-examples))
 
 pub circle-heading-spec : {M : Type 1} → statement M
 circle-heading-spec =

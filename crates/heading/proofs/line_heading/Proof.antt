@@ -12,6 +12,7 @@ use Rattle.integers.proofs.ValueLaws.{value, uneven, is}
 use Rattle.integers.proofs.WrapLaws.{wrap-low}
 use Rattle.course.specs.Bearing.{bearingOf}
 use Rattle.heading.specs.Heading.{lineAngle, lineHeading}
+use Rattle.heading.proofs.ExampleLaws.{line-examples}
 use Rattle.heading.proofs.line_heading.Statement.{statement}
 use Rattle.heading.proofs.line_heading.Tie as tie
 
@@ -38,6 +39,10 @@ sub-wrap c =
 wrap-requires : tie.Need-wrap-requires
 wrap-requires c κs = search needs
 
+-- the bearing k, leaning by b
+abbrev leaned : ℕ → ℤ → ℤ
+leaned k b = pos k -ℤ quotZ (pos 768 *ℤ b) (pos 1024)
+
 returns : tie.Need-returns
 unfolding lineHeading
 returns c =
@@ -45,8 +50,9 @@ returns c =
     let b = c .before .before .line-angle in
     let k = c .before .bearing in
     let h : k .result ≤ 4096 = omega (arith, k .ensures .low) in
-    let e : c .wrap .result ≡ wrapOf (pos (k .result) -ℤ quotZ (pos 768 *ℤ b .result) (pos 1024)) = c .wrap .ensures ∙ ap wrapOf (is (search (value, uneven) depth 20 fits 5000)) in
-    wrap-low (pos (bearingOf (s .q)) -ℤ quotZ (pos 768 *ℤ lineAngle (s .q) (s .d)) (pos 1024)) (e ∙ (λ i. wrapOf (pos (k .ensures .value i) -ℤ quotZ (pos 768 *ℤ b .ensures .0 i) (pos 1024))))
+    let e : c .wrap .result ≡ wrapOf (leaned (k .result) (b .result)) = c .wrap .ensures ∙ ap wrapOf (is (search (value, uneven) depth 20 fits 5000)) in
+    let low = wrap-low (leaned (bearingOf (s .q)) (lineAngle (s .q) (s .d))) (e ∙ (λ i. wrapOf (leaned (k .ensures .value i) (b .ensures .0 i)))) in
+    (low .0, (low .1, line-examples))
 
 pub line-heading-spec : {M : Type 1} → statement M
 line-heading-spec =

@@ -1,18 +1,15 @@
--- `direction_part` gives x / 16,384, exactly. Assumes nothing.
-use mathlib.Core.Path.{_≡_, refl, sym, subst}
+-- `direction_part` gives x / 16,384, exactly, which is a plain number. Assumes nothing.
+use mathlib.Core.Path.{_≡_, refl}
 use lib.IntN.{pos}
-use lib.Ieee.{Float, binary32, ofBits, ofInt}
-use Rattle.units.specs.Metres.{directionPartOf, Exactly}
+use lib.Ieee.{binary32, ofBits, ofInt}
+use Rattle.units.specs.Metres.{directionPartOf}
 use Rattle.units.proofs.ConversionLaws.{in-float}
-use Rattle.units.proofs.QuotientLaws.{quotient-read, direction-exact}
+use Rattle.units.proofs.QuotientLaws.{quotient-read, direction-promise}
 use Rattle.units.proofs.direction_part.Statement.{statement}
 use Rattle.units.proofs.direction_part.Tie as tie
 
 int-to-float-result : tie.Need-int-to-float-result
 int-to-float-result c = in-float (c .before .pre) tt
-
-exactly : {r : Float} (c : tie.Start) → r ≡ directionPartOf (c .args .x) → (r ≡ directionPartOf (c .args .x)) × Exactly r (c .args .x) 16384
-exactly c e = (e, subst (λ (r : Float). Exactly r (c .args .x) 16384) (sym e) (direction-exact (c .args .x) (c .pre)))
 
 -- the code's 16384.0
 scale : ofBits binary32 0x4680_0000 ≡ ofInt binary32 (pos 16384)
@@ -21,7 +18,7 @@ scale = refl
 
 returns : tie.Need-returns
 unfolding directionPartOf
-returns c = exactly (c .before) (quotient-read 16384 scale (c .before .pre) tt)
+returns c = direction-promise (c .before .pre) (quotient-read 16384 scale (c .before .pre) tt)
 
 pub direction-part-spec : {M : Type 1} → statement M
 direction-part-spec = tie.close (tie.spec int-to-float-result returns)

@@ -84,7 +84,7 @@ returns-2 : tie.Need-returns-2
 returns-2 c = λ a e n.
     let r = c .before .before .before in
     let h = r .before .before .before .before .before in
-    ap (λ (q : Progress). record { refusal = 0; place = 0; head = h .head-of .result; progress = q }) (c .first .ensures)
+    ap (λ (q : Progress). record { refusal = 0; place = 0; head = h .head-of .result; progress = q }) (c .first .ensures .0)
     ∙ finish-good _ (h .before .args .gathered) _ (h .head-of .ensures) _ a e n _ (r .rules .ensures) (c .before .if1 .left)
 
 pub finish-spec : {M : Type 1} → statement M

@@ -1,6 +1,6 @@
 -- `State::step` answers one fix of any state, serial and floats. Assumes nothing.
 use borrow.Author.Needs.{needs}
-use Rattle.manager.proofs.FinishLaws.{step-promise}
+use Rattle.manager.proofs.FliesLaws.{step-promise}
 use Rattle.manager.proofs.State.step.Statement.{statement}
 use Rattle.manager.proofs.State.step.Tie as tie
 
