@@ -3,7 +3,7 @@ use mathlib.Core.Path.{_≡_}
 use mathlib.Core.List.{List}
 use Prim.Native.Nat.{ℕ}
 use Rattle.manager.specs.declared.State.{State}
-use Rattle.flight.specs.Demand.{Loads, Demand}
+use Rattle.flight.specs.Demand.{Loads, cutOut, Demand}
 use Rattle.flight.proofs.RunLaws.{only-chain, alike-runs}
 use Rattle.flight.proofs.OlderLaws.{too-new, otherwise-loads, only-newer, same-state}
 use Rattle.flight.proofs.LaterLaws.{is-cut, cut-loads, uncut-loads}
@@ -20,6 +20,8 @@ demand =
       alike = λ f s₁ s₃ r o h₁ h₃ fixes. alike-runs s₁ s₃ (same-state f s₃ h₃ r o s₁ h₁) fixes;
       chained = λ s fixes os. only-chain s fixes os;
       cutting = λ f later. is-cut f later;
-      cut = λ f later. (λ x. (x .0, cut-loads f later (x .0) (x .1)), λ x. (x .0, uncut-loads f later (x .0) (x .1)));
-      same = λ f later s t h g. one-state f s t h (uncut-loads f later t g);
+      cut =
+          λ f later.
+          (λ x. (x .0, cut-loads f (cutOut f) later (is-cut f later) (x .0) (x .1)), λ x. (x .0, uncut-loads f (cutOut f) later (is-cut f later) (x .0) (x .1)));
+      same = λ f later s t h g. one-state f s t h (uncut-loads f (cutOut f) later (is-cut f later) t g);
     }

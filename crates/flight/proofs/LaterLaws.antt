@@ -74,42 +74,42 @@ module _ (f : List ℕ) (later : IsLater f) where
   pub is-cut : IsCut f (cutOut f)
   is-cut = record { version = cut-version; serial = cut-serial; header = cut-header; records = cut-records }
 
-  -- ---- what its records give
-  cut-parts : (a : Parts) → (partsOf newest f ≡ good a) ↔ (partsOf newest (cutOut f) ≡ good a)
-  unfolding partsOf
-  cut-parts a = rw (cut-version, cut-records) (cut-out (versionOf f) (later .version) (recordsOf f) headerLength headerLength noParts a)
-
 -- what the whole walk decides does not hang on records that are skipped
 settled-alike : (w : Walked) (a b : Parts) → (settleOf w a ≡ good b) ↔ (settleOf (sift w) a ≡ good b)
 unfolding settleOf
 settled-alike w a b = (λ e. e, λ e. e)
 
--- ---- the loads
-module _ (f : List ℕ) (later : IsLater f) (s : State) where
-  pub cut-loads : Loads 3 f s → Loads 3 (cutOut f) s
-  cut-loads h =
-      let x = load-steps newest f s h in
-      steps-load newest (cutOut f) s
-      (record {
-        served = x .served;
-        header = cut-header f later;
-        taken = x .taken;
-        gathered = cut-parts f later (x .taken) .0 (x .gathered);
-        settled = x .settled;
-        settles = rw (cut-records f later) (settled-alike (recordsOf f) (x .taken) (x .settled) .0 (x .settles));
-        finishes = rw (cut-serial f later) (x .finishes);
-      })
+-- ---- the loads of a later file and of whatever is its cut
+module _ (f g : List ℕ) (later : IsLater f) (is : IsCut f g) where
+  cut-parts : (a : Parts) → (partsOf newest f ≡ good a) ↔ (partsOf newest g ≡ good a)
+  unfolding partsOf
+  cut-parts a = rw (is .version, is .records) (cut-out (versionOf f) (later .version) (recordsOf f) headerLength headerLength noParts a)
 
-  pub uncut-loads : Loads 3 (cutOut f) s → Loads 3 f s
-  uncut-loads h =
-      let x = load-steps newest (cutOut f) s h in
-      steps-load newest f s
-      (record {
-        served = x .served;
-        header = later .header;
-        taken = x .taken;
-        gathered = cut-parts f later (x .taken) .1 (x .gathered);
-        settled = x .settled;
-        settles = settled-alike (recordsOf f) (x .taken) (x .settled) .1 (rw (cut-records f later) at (x .settles));
-        finishes = rw (cut-serial f later) at (x .finishes);
-      })
+  module _ (s : State) where
+    pub cut-loads : Loads 3 f s → Loads 3 g s
+    cut-loads h =
+        let x = load-steps newest f s h in
+        steps-load newest g s
+        (record {
+          served = x .served;
+          header = is .header;
+          taken = x .taken;
+          gathered = cut-parts (x .taken) .0 (x .gathered);
+          settled = x .settled;
+          settles = rw (is .records) (settled-alike (recordsOf f) (x .taken) (x .settled) .0 (x .settles));
+          finishes = rw (is .serial) (x .finishes);
+        })
+
+    pub uncut-loads : Loads 3 g s → Loads 3 f s
+    uncut-loads h =
+        let x = load-steps newest g s h in
+        steps-load newest f s
+        (record {
+          served = x .served;
+          header = later .header;
+          taken = x .taken;
+          gathered = cut-parts (x .taken) .1 (x .gathered);
+          settled = x .settled;
+          settles = settled-alike (recordsOf f) (x .taken) (x .settled) .1 (rw (is .records) at (x .settles));
+          finishes = rw (is .serial) at (x .finishes);
+        })

@@ -5,3 +5,5 @@ pub mod DemandLaws
 pub mod ListLaws
 pub mod FlightLaws
 pub mod TwoFlightsLaws
+pub mod WitnessLaws
+pub mod AnchorLaws

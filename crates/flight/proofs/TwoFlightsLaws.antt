@@ -22,7 +22,7 @@ use Rattle.flight.specs.Run.{Named}
 use Rattle.flight.specs.Demand.{IsOlder}
 use Rattle.flight.specs.Flight.{namedOf, fitsOf, beginOf, flownBy, flownOf, answersAfter, commandsAfter}
 use Rattle.flight.specs.TwoFlights.{TwoFlights, flownWith}
-use Rattle.flight.proofs.OlderLaws.{too-new, otherwise-loads}
+use Rattle.flight.proofs.DemandLaws.{demand}
 
 -- a flight that is not refused started from a state
 started : (o : Outcome State) (xs : List Named) → Proper o → flownBy emptyState o xs .refusal ≡ 0 → (s : State) × (o ≡ good s)
@@ -44,12 +44,12 @@ module _ (f serials : List ℕ) (fixes : List Float) (answers : List ℕ) (comma
   by-load = ap (λ (o : Outcome State). flownBy emptyState o (namedOf serials fixes)) (check-true _ misfit _ (from-three .1 .0))
 
   same-load : holdsNewer r (recordsOf f) ≡ false → loadOf r f ≡ loadOf 3 f
-  same-load h = otherwise-loads f (from-three .0) (from-three .1 .1) r older h ∙ sym (from-three .1 .1)
+  same-load h = demand .otherwise f (from-three .0) (from-three .1 .1) r older h ∙ sym (from-three .1 .1)
 
   newer-refused : holdsNewer r (recordsOf f) ≡ true → flownWith f serials fixes answers commands r .refusal ≡ 7
   unfolding flownBy
   newer-refused h =
-      let x = too-new f (from-three .0) (from-three .1 .1) r older h in
+      let x = demand .refuses f (from-three .0) (from-three .1 .1) r older .1 h in
       ap (λ (y : Flown). y .refusal) by-load ∙ ap (λ (o : Outcome State). flownBy emptyState o (namedOf serials fixes) .refusal) (x .1)
 
   flown-alike : holdsNewer r (recordsOf f) ≡ false → flownWith f serials fixes answers commands r ≡ flownWith f serials fixes answers commands 3

@@ -10,6 +10,7 @@ use Rattle.manager.specs.State.{emptyState}
 use Rattle.records.specs.Kinds.{holdsNewer}
 use Rattle.wpl.specs.Load.{recordsOf, loadOf}
 use Rattle.flight.specs.declared.Flown.{Flown}
+use Rattle.flight.specs.Demand.{IsOlder}
 use Rattle.flight.specs.Flight.{flownOf, answersAfter, commandsAfter}
 
 module _ (f serials : List ℕ) (fixes : List Float) (answers : List ℕ) (commands : List Float) where
@@ -30,3 +31,7 @@ module _ (f serials : List ℕ) (fixes : List Float) (answers : List ℕ) (comma
     pub flown : holdsNewer r (recordsOf f) ≡ false → flownWith r ≡ flownWith 3
     pub answered : holdsNewer r (recordsOf f) ≡ false → answersWith r ≡ answersWith 3
     pub commanded : holdsNewer r (recordsOf f) ≡ false → commandsWith r ≡ commandsWith 3
+
+  -- so it is with every reader of version one or two where reader three flies
+  abbrev pub OlderFlights : Type 0
+  OlderFlights = (r : ℕ) → IsOlder r → flownWith 3 .refusal ≡ 0 → TwoFlights r

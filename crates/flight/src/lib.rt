@@ -10,6 +10,9 @@ ghost use Rattle.buffers.specs.Splice.{over};
 ghost use Rattle.manager.specs.State.{emptyState};
 ghost use Rattle.wpl.specs.Load.{loadOf};
 ghost use Rattle.flight.specs.Run.{run};
+ghost use Rattle.flight.specs.Demand.{Demand};
+ghost use Rattle.flight.specs.TwoFlights.{OlderFlights};
+ghost use Rattle.flight.specs.Anchors.{Anchored};
 ghost use Rattle.flight.specs.Flight.{fixAt, namedOf, answersOf, commandsOf, lastOf, fitsOf, flownOf, answersAfter, commandsAfter};
 
 // How many numbers a fix has.
@@ -104,6 +107,7 @@ pub fn run(
 }
 
 // The fixes of the lists from the state that a reader loads from a file. Refused, the state is the empty one and nothing is written.
+// It keeps demand 3, whatever the file.
 pub fn fly(
     file: &[u8],
     reader: u32,
@@ -115,6 +119,9 @@ pub fn fly(
     ensures { λ r. ⌜ r ≡ flownOf emptyState (loadOf reader (now (file .entry))) (now (serials .entry)) (now (fixes .entry)) (now (answers .entry)) (now (commands .entry)) ⌝ }
     ensures { λ _. ⌜ now (answers .exit) ≡ answersAfter (loadOf reader (now (file .entry))) (now (serials .entry)) (now (fixes .entry)) (now (answers .entry)) (now (commands .entry)) ⌝ }
     ensures { λ _. ⌜ now (commands .exit) ≡ commandsAfter (loadOf reader (now (file .entry))) (now (serials .entry)) (now (fixes .entry)) (now (answers .entry)) (now (commands .entry)) ⌝ }
+    ensures { λ _. ⌜ OlderFlights (now (file .entry)) (now (serials .entry)) (now (fixes .entry)) (now (answers .entry)) (now (commands .entry)) ⌝ }
+    ensures { λ _. ⌜ Demand ⌝ }
+    ensures { λ _. ⌜ Anchored ⌝ }
 {
     if !fits(serials.len(), fixes.len(), answers.len(), commands.len()) {
         return Flown {

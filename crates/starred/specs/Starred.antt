@@ -31,18 +31,19 @@ leg n e = record { north = n; east = e; down = pos 0 }
 abbrev pub to : ℕ → ℕ → ℕ → Ends
 to n e χ = record { start = point 0 0; leave = 0; end = point n e; arrive = χ; radius = 100 }
 
--- what an example says of a Dubins leg
+-- what an example says of a Dubins leg: a case with all that it gives or with its length alone, or a case that is missing
 pub data Brief : Type 0 where
   path : ℕ → ℕ → Vector → Vector → Brief
+  long : ℕ → Brief
   none : Brief
 
 abbrev pub briefOf : Found → Brief
 briefOf (Shortest p) = path (p .case) (p .length) (p .z1) (p .z2)
 briefOf Missing = none
 
-abbrev pub lengthIn : Found → ℕ
-lengthIn (Shortest p) = p .length
-lengthIn Missing = 0
+abbrev pub lengthIn : Found → Brief
+lengthIn (Shortest p) = long (p .length)
+lengthIn Missing = none
 
 -- ---- what an example says
 pub data Example : Type 0 where
@@ -54,8 +55,10 @@ pub data Example : Type 0 where
   meets : Leg → Leg → Leg → Bool → Example
   -- centre and z2 of the corner between three points with a radius
   rounds : Point → Point → Point → ℕ → Vector → Vector → Example
-  -- the length of a leg by one of its cases, 0 where it does not exist
+  -- the length of a leg by one of its cases
   measures : Ends → ℕ → ℕ → Example
+  -- a case that a leg does not have
+  lacks : Ends → ℕ → Example
   -- the leg's shortest case: its number, length, z1 and z2
   flies : Ends → ℕ → ℕ → Vector → Vector → Example
   -- the heading on a line with a level direction, at an offset from its start
@@ -66,7 +69,8 @@ Holds (bears v k) = bearingOf v ≡ k
 Holds (turns pattern d) = decimetresOf (ofBits binary32 pattern) ≡ d
 Holds (meets d a b t) = metOf d a b ≡ t
 Holds (rounds a b c R centre z2) = (cornerOf a b c R .centre ≡ centre) × (cornerOf a b c R .z2 ≡ z2)
-Holds (measures ends case length) = lengthIn (casePath ends case) ≡ length
+Holds (measures ends case length) = lengthIn (casePath ends case) ≡ long length
+Holds (lacks ends case) = lengthIn (casePath ends case) ≡ none
 Holds (flies ends case length z1 z2) = briefOf (shortestOf ends) ≡ path case length z1 z2
 Holds (heads q d k) = lineHeading q d ≡ k
 
@@ -94,7 +98,7 @@ starred =
     ∷ measures (to 1000 0 0) 4 1000
     ∷ flies (to 1000 0 0) 1 1000 (plain 0 0) (plain 1000 0)
     ∷ flies (to 0 1000 2048) 1 1114 (plain 100 100) (plain 100 900)
-    ∷ measures (to 0 300 0) 2 0
+    ∷ lacks (to 0 300 0) 2
     ∷ flies (to 0 300 0) 1 928 (plain 100 100) (plain 100 400)
     ∷ heads (plain 1000 0) (plain 0 500) 3712
     ∷ []

@@ -1,1 +1,12 @@
-// Document 01's starred examples, proved as one statement over one list: specs/Starred and proofs/StarredLaws. There is no code here.
+// Document 01's starred examples, proved as one statement over one list: specs/Starred and proofs/StarredLaws.
+ghost use mathlib.Core.Path.{_≡_};
+ghost use lib.ListN.{length};
+ghost use Rattle.starred.specs.Starred.{All, starred};
+
+// How many starred examples there are. Each of them holds.
+pub fn count() -> usize
+    ensures { λ r. ⌜ r ≡ length starred ⌝ }
+    ensures { λ _. ⌜ All starred ⌝ }
+{
+    20
+}

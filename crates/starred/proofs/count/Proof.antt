@@ -1,0 +1,11 @@
+-- `count` gives the length of the list, and the prover has computed each example. Assumes nothing.
+use mathlib.Core.Path.{refl}
+use Rattle.starred.proofs.StarredLaws.{each}
+use Rattle.starred.proofs.count.Statement.{statement}
+use Rattle.starred.proofs.count.Tie as tie
+
+returns : tie.Need-returns
+returns c = (refl, each)
+
+pub count-spec : {M : Type 1} → statement M
+count-spec = tie.close (tie.spec returns)
