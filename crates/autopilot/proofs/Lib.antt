@@ -1,3 +1,4 @@
 pub mod CallLaws
+pub mod HeldLaws
 pub mod FixLaws
 pub mod TwoBuffersLaws

@@ -1,2 +1,4 @@
 pub mod Calls
+pub mod Held
+pub mod CallList
 pub mod TwoBuffers
