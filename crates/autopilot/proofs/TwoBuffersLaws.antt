@@ -1,5 +1,5 @@
 -- Two buffers loaded from one file by an older reader and by reader three, from demand 3. Assumes nothing.
-use mathlib.Core.Path.{_≡_, refl, sym, ap, _∙_}
+use mathlib.Core.Path.{_≡_, refl, sym, ap, subst, _∙_}
 use mathlib.Core.Bool.{true}
 use mathlib.Core.List.{List, [], _++_}
 use Prim.Native.Nat.{ℕ, _<_}
@@ -15,12 +15,14 @@ use Rattle.records.specs.Numbers.{u16At, u32At}
 use Rattle.wpl.specs.Header.{serialOf}
 use Rattle.wpl.specs.Load.{loadOf, loadedOf}
 use Rattle.wpl.proofs.LoadLaws.{loaded-good, load-filled}
+use Rattle.flight.specs.Run.{run}
+use Rattle.flight.specs.Flight.{lastOf}
 use Rattle.flight.proofs.OlderLaws.{same-state}
 use Rattle.autopilot.specs.Calls.{loadResult, loadState}
 use Rattle.autopilot.specs.Held.{Hold}
-use Rattle.autopilot.specs.CallList.{replies, wordsInTheEnd}
-use Rattle.autopilot.specs.TwoBuffers.{loadedBy, NotRefused, AreBytes, AlikeBuffers}
-use Rattle.autopilot.proofs.HeldLaws.{loaded-serial, load-holds}
+use Rattle.autopilot.specs.CallList.{replies, wordsInTheEnd, fixesOf}
+use Rattle.autopilot.specs.TwoBuffers.{loadedBy, NotRefused, AreBytes, AlikeBuffers, BuffersFly}
+use Rattle.autopilot.proofs.HeldLaws.{loaded-serial, load-holds, calls-run}
 
 -- ---- the words of a loaded state fill a buffer of their number, since the plan that a file gives has whole arrays
 loaded-full : (r : ℕ) (f : List ℕ) (s : State) → loadOf r f ≡ good s → length (stateWords s) ≡ stateLength
@@ -63,4 +65,13 @@ alike-buffers r f a b older bytes la lb n m =
       equal = e;
       replied = λ cs. ap (λ (ws : List ℤ). replies ws cs) e;
       stay = λ cs. ap (λ (ws : List ℤ). wordsInTheEnd ws cs) e;
+    }
+
+pub buffers-fly : BuffersFly
+buffers-fly r f a b two s h =
+    let three = two .held s h in
+    record {
+      held = subst (λ (ws : List ℤ). Hold ws s) (sym (two .equal)) three;
+      replied = λ cs. two .replied cs ∙ calls-run .replied (loadedBy 3 f b) s three cs;
+      ended = λ cs. subst (λ (ws : List ℤ). Hold ws (lastOf s (run s (fixesOf cs)))) (sym (two .stay cs)) (calls-run .ended (loadedBy 3 f b) s three cs);
     }

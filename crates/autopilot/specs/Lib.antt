@@ -2,3 +2,4 @@ pub mod Calls
 pub mod Held
 pub mod CallList
 pub mod TwoBuffers
+pub mod Example

@@ -10,10 +10,12 @@ use Rattle.refusals.specs.Outcome.{good}
 use Rattle.manager.specs.declared.State.{State}
 use Rattle.c_state.specs.Stored.{stateLength}
 use Rattle.wpl.specs.Load.{loadOf, loadedOf}
+use Rattle.flight.specs.Run.{run}
+use Rattle.flight.specs.Flight.{lastOf}
 use Rattle.flight.specs.Demand.{IsOlder}
 use Rattle.autopilot.specs.Calls.{loadResult, loadState}
 use Rattle.autopilot.specs.Held.{Hold}
-use Rattle.autopilot.specs.CallList.{Call, replies, wordsInTheEnd}
+use Rattle.autopilot.specs.CallList.{Call, replies, wordsInTheEnd, fixesOf, repliesOf}
 
 -- a state's words that a load was not refused for
 abbrev pub loadedBy : ℕ → List ℕ → List ℤ → List ℤ
@@ -37,3 +39,12 @@ AreBytes f = (i : ℕ) → getD f i 0 < 256
 abbrev pub AlikeBuffers : Type 0
 AlikeBuffers =
     (r : ℕ) (f : List ℕ) (a b : List ℤ) → IsOlder r → AreBytes f → length a ≡ stateLength → length b ≡ stateLength → NotRefused r f → NotRefused 3 f → TwoBuffers r f a b
+
+-- what it comes to for the older reader's buffer: it holds reader three's state, and flies as that state's run does
+pub record FliesAlike (r : ℕ) (f : List ℕ) (a : List ℤ) (s : State) : Type 0 where
+  pub held : Hold (loadedBy r f a) s
+  pub replied : (cs : List Call) → replies (loadedBy r f a) cs ≡ repliesOf s cs (run s (fixesOf cs))
+  pub ended : (cs : List Call) → Hold (wordsInTheEnd (loadedBy r f a) cs) (lastOf s (run s (fixesOf cs)))
+
+abbrev pub BuffersFly : Type 0
+BuffersFly = (r : ℕ) (f : List ℕ) (a b : List ℤ) → TwoBuffers r f a b → (s : State) → loadOf 3 f ≡ good s → FliesAlike r f a s

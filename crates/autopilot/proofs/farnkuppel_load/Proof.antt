@@ -11,7 +11,7 @@ use Rattle.wpl.specs.declared.Entered.{Entered}
 use Rattle.wpl.proofs.LoadLaws.{loaded-filled}
 use Rattle.autopilot.proofs.CallLaws.{pair-means, all-lent, load-unfit, load-fit}
 use Rattle.autopilot.proofs.HeldLaws.{load-holds-none, load-holds}
-use Rattle.autopilot.proofs.TwoBuffersLaws.{alike-buffers}
+use Rattle.autopilot.proofs.TwoBuffersLaws.{alike-buffers, buffers-fly}
 use borrow.Author.Needs.{needs}
 use Rattle.autopilot.proofs.farnkuppel_load.Statement.{statement}
 use Rattle.autopilot.proofs.farnkuppel_load.Tie as tie
@@ -30,7 +30,7 @@ returns : tie.Need-returns
 returns c =
     let u = sym (c .before .fits2 .ensures) ∙ not-true _ (c .if1 .taken) in
     let l = load-unfit _ _ _ _ u in
-    (l .result, (l .words, (l .answered, (load-holds-none _ _ _ _ _ u, alike-buffers))))
+    (l .result, (l .words, (l .answered, (load-holds-none _ _ _ _ _ u, (alike-buffers, buffers-fly)))))
 
 sub-load-into : tie.Need-sub-load-into
 sub-load-into c = search needs
@@ -78,7 +78,7 @@ returns-2 c =
     (p .put-words .ensures ∙ ap (λ (n : ℕ). over (d .load-into .result .refusal ∷ n ∷ []) (s .args .answer .now)) (w .word .ensures)) in
     let word : d .load-into .result .head .serial < 4294967296 = w .before .struct-known .given .1 .1 .0 .0 .fits in
     let held = load-holds _ _ _ _ _ _ word (ap (λ (x : Entered). x .head .serial) (d .load-into .ensures .0)) (l .words) in
-    (l .result, (l .words, (l .answered, (held, alike-buffers))))
+    (l .result, (l .words, (l .answered, (held, (alike-buffers, buffers-fly)))))
 
 pub farnkuppel-load-spec : {M : Type 1} → statement M
 farnkuppel-load-spec =
