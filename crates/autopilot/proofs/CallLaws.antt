@@ -1,5 +1,5 @@
 -- A load and a write by their tests: lent slices that are too short, words that hold no state, and the rest. Assumes nothing.
-use mathlib.Core.Path.{_≡_, sym, ap, _∙_}
+use mathlib.Core.Path.{_≡_, refl, sym, ap, _∙_}
 use mathlib.Core.Bool.{Bool, true, false}
 use mathlib.Core.List.{List, [], _∷_, _++_}
 use Prim.Native.Nat.{ℕ, _-_, _≤_}
@@ -15,8 +15,7 @@ use Rattle.refusals.proofs.Bools.{both-first, both-second}
 use Rattle.refusals.proofs.OutcomeLaws.{then-good, then-stops}
 use Rattle.buffers.specs.Splice.{over}
 use Rattle.plan.specs.declared.Head.{Head}
-use Rattle.plan.specs.Limits.{mostPoints}
-use Rattle.plan.specs.Places.{seen, planNumbers, numbersOf, Filled}
+use Rattle.plan.specs.Places.{planNumbers, numbersOf, Filled}
 use Rattle.manager.specs.declared.Progress.{Progress}
 use Rattle.manager.specs.declared.State.{State}
 use Rattle.manager.specs.State.{viewed}
@@ -29,22 +28,17 @@ use Rattle.wpl.specs.declared.Written.{Written}
 use Rattle.wpl.specs.Load.{enteredOf}
 use Rattle.wpl.specs.Write.{writeOf, writtenOf, bufferOf}
 use Rattle.autopilot.specs.Calls.{pairFits, loadWords, loadResult, loadState, loadAnswer, writeFrom, writeWords, writeResult, writeFile, writeAnswer}
+use Rattle.autopilot.specs.Held.{Untouched}
 
 -- ---- lengths
 pub pair-means : (s a least : ℕ) → pairFits s a least ≡ true → (stateLength ≤ s) × (least ≤ a)
 unfolding pairFits
 pair-means s a least h = (leb-true stateLength s (both-first _ _ h), leb-true least a (both-second _ _ h))
 
--- ---- parts of the words: all numbers, and the state with each kind of them
+-- ---- parts of the words: all numbers, and the state of all kinds of them
 module _ (ws : List ℤ) (long : stateLength ≤ length ws) where
   pub all-lent : length (take (stateLength - northsPlace) (drop northsPlace ws)) ≡ planNumbers
   all-lent = length-take-le (stateLength - northsPlace) (drop northsPlace ws) (simp length-drop (omega arith))
-
-  pub blocks-lent : (h : Head) → Filled (seen h (part northsPlace ws) (part eastsPlace ws) (part downsPlace ws) (part coursesPlace ws))
-  blocks-lent h = record { north = whole northsPlace (omega arith); east = whole eastsPlace (omega arith); down = whole downsPlace (omega arith); course = whole coursesPlace (omega arith) }
-    where
-      whole : (at : ℕ) → at ≤ coursesPlace → length (part at ws) ≡ mostPoints
-      whole at l = length-take-le mostPoints (drop at ws) (simp length-drop (omega arith))
 
 pub state-there : (ws : List ℤ) {h : Head} {p : Progress} → h ≡ headAt ws → p ≡ progressAt ws
     → viewed h p (part northsPlace ws) (part eastsPlace ws) (part downsPlace ws) (part coursesPlace ws) ≡ stateAt ws
@@ -83,15 +77,21 @@ module _ (b : Bool) (x : Loaded) (state : List ℤ) (answer : List ℕ) where
       }
 
 -- ---- write
+left : (o : Outcome (List ℕ)) → (writtenOf o .refusal ≡ 0 → ⊥) → (file : List ℕ) → bufferOf o file ≡ file
+unfolding writtenOf bufferOf
+left (good bytes) h file = absurd (h refl)
+left (refused number place) h file = refl
+
 module _ (b : Bool) (o : Outcome (List ℕ)) (file answer : List ℕ) where
   pub record Writes (n : ℕ) (bytes an : List ℕ) : Type 0 where
     pub result : n ≡ writeResult b o
     pub written : bytes ≡ writeFile b o file
     pub answered : an ≡ writeAnswer b o answer
+    pub kept : Untouched n file bytes
 
   pub write-unfit : b ≡ false → Writes misfit file answer
   unfolding writeResult writeFile writeAnswer
-  write-unfit h = record { result = sym (choose-false _ _ _ h); written = sym (choose-false _ _ _ h); answered = sym (choose-false _ _ _ h) }
+  write-unfit h = record { result = sym (choose-false _ _ _ h); written = sym (choose-false _ _ _ h); answered = sym (choose-false _ _ _ h); kept = λ _. refl }
 
   pub write-fit : b ≡ true → (x : Written) (bytes an : List ℕ) → x ≡ writtenOf o → bytes ≡ bufferOf o file → an ≡ over (writeWords x) answer
       → Writes (x .refusal) bytes an
@@ -101,6 +101,7 @@ module _ (b : Bool) (o : Outcome (List ℕ)) (file answer : List ℕ) where
         result = ap (λ (y : Written). y .refusal) e ∙ sym (choose-true _ _ _ h);
         written = f ∙ sym (choose-true _ _ _ h);
         answered = a ∙ ap (λ (y : Written). over (writeWords y) answer) e ∙ sym (choose-true _ _ _ h);
+        kept = λ n. f ∙ left o (λ z. n (ap (λ (y : Written). y .refusal) e ∙ z)) file;
       }
 
   -- words that hold no state

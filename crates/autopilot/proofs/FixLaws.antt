@@ -1,6 +1,7 @@
--- A fix by its tests: lent slices that are too short, words that hold no state, and the rest. On a refusal the words are what they were.
+-- A fix by its tests: lent slices that are too short, words that hold no state, and the rest. The words hold the next state; on a refusal they are
+-- what they were.
 -- Assumes nothing.
-use mathlib.Core.Path.{_≡_, sym, ap, _∙_}
+use mathlib.Core.Path.{_≡_, refl, sym, ap, subst, _∙_}
 use mathlib.Core.Bool.{Bool, true, false}
 use mathlib.Core.List.{List}
 use Prim.Native.Nat.{ℕ, _≤_, _<_}
@@ -10,9 +11,9 @@ use lib.Ieee.{Float}
 use borrow.Author.Tests.{le-leb, lt-leb}
 use Rattle.integers.proofs.ChooseLaws.{choose-true, choose-false}
 use Rattle.refusals.specs.Numbers.{misfit, noState}
-use Rattle.refusals.specs.Outcome.{good, refused}
-use Rattle.refusals.proofs.Bools.{by-bool, both-true, both-off-second, both-off}
-use Rattle.refusals.proofs.OutcomeLaws.{check-true, check-false}
+use Rattle.refusals.specs.Outcome.{Outcome, good, refused}
+use Rattle.refusals.proofs.Bools.{clash, both-true, both-off-second, both-off}
+use Rattle.refusals.proofs.OutcomeLaws.{check-true, check-false, never-good}
 use Rattle.buffers.specs.Splice.{over, splice}
 use Rattle.units.specs.declared.Fix.{Fix}
 use Rattle.guidance.specs.declared.Command.the-variants.{Nothing}
@@ -26,9 +27,11 @@ use Rattle.manager.specs.State.{viewed}
 use Rattle.manager.specs.Step.{steppedBy, stepOf}
 use Rattle.manager.proofs.StepLaws.{step-refused}
 use Rattle.c_answer.specs.Words.{answerWords, commandNumbers}
-use Rattle.c_state.specs.Stored.{indexPlace, northsPlace, eastsPlace, downsPlace, coursesPlace, stateLength, progressWords, stateWords, headAt, progressAt, part, planAt, stateAt, holdsState, takenOf, AreWords}
-use Rattle.c_state.proofs.StoredLaws.{put-back, progress-is}
+use Rattle.c_state.specs.Stored.{serialPlace, indexPlace, northsPlace, eastsPlace, downsPlace, coursesPlace, stateLength, progressWords, stateWords, headAt, progressAt, part, planAt, stateAt, holdsState, takenOf, AreWords, Storable}
+use Rattle.c_state.proofs.StoredLaws.{put-back, progress-is, held-storable}
 use Rattle.autopilot.specs.Calls.{pairFits, fixFits, refusedWords, fixWords, fixNumbers, fixNumber, fixNext, fixResult, fixState, fixAnswer, fixCommand}
+use Rattle.autopilot.specs.Held.{Hold, FixHolds}
+use Rattle.autopilot.proofs.HeldLaws.{hold-over, step-storable}
 
 -- ---- lengths
 module _ (state : List ℤ) (answer : List ℕ) (command : List Float) where
@@ -73,6 +76,7 @@ module _ (b : Bool) (ws : List ℤ) (serial : ℕ) (fix : Fix) (answer : List �
     pub words : next ≡ fixState b ws serial fix
     pub answered : an ≡ fixAnswer b ws serial fix answer
     pub commanded : cn ≡ fixCommand b ws serial fix command
+    pub holds : FixHolds b serial fix ws next n
 
   pub fix-unfit : b ≡ false → Fixes misfit ws answer command
   unfolding fixResult fixState fixAnswer fixCommand
@@ -82,46 +86,55 @@ module _ (b : Bool) (ws : List ℤ) (serial : ℕ) (fix : Fix) (answer : List �
         words = sym (choose-false _ _ _ h);
         answered = sym (choose-false _ _ _ h);
         commanded = sym (choose-false _ _ _ h);
+        holds = record { next = λ t. clash b t h; untouched = λ _. refl };
       }
 
   module _ (h : b ≡ true) where
     by-words : (n : ℕ) (next : List ℤ) (an : List ℕ) (cn : List Float) → n ≡ fixNumber (takenOf ws) serial fix
         → next ≡ fixNext (takenOf ws) ws serial fix → an ≡ over (fixWords (takenOf ws) ws serial fix) answer
-        → cn ≡ over (fixNumbers (takenOf ws) serial fix) command → Fixes n next an cn
+        → cn ≡ over (fixNumbers (takenOf ws) serial fix) command → FixHolds b serial fix ws next n → Fixes n next an cn
     unfolding fixResult fixState fixAnswer fixCommand
-    by-words n next an cn p q r s =
+    by-words n next an cn p q r s f =
         record {
           result = p ∙ sym (choose-true _ _ _ h);
           words = q ∙ sym (choose-true _ _ _ h);
           answered = r ∙ sym (choose-true _ _ _ h);
           commanded = s ∙ sym (choose-true _ _ _ h);
+          holds = f;
         }
 
     pub fix-refused : (an : List ℕ) (cn : List Float) → holdsState ws ≡ false → an ≡ over (refusedWords noState 0 ws) answer
         → cn ≡ over (commandNumbers Nothing) command → Fixes noState ws an cn
     unfolding fixNumber fixNext fixWords fixNumbers
-    fix-refused an cn k a c = let e = not-held ws k in by-words noState ws an cn (rw e) (rw e) (rw e a) (rw e c)
+    fix-refused an cn k a c =
+        let e = not-held ws k in
+        by-words noState ws an cn (rw e) (rw e) (rw e a) (rw e c)
+        (record { next = λ _ s g. never-good (sym e ∙ g); untouched = λ _. refl })
+
+    taken-next : (s : State) → takenOf ws ≡ good (stateAt ws) → takenOf ws ≡ good s → Storable (stateAt ws)
+        → {next : List ℤ} → next ≡ over (stateWords (stepOf (stateAt ws) serial fix .state)) ws → Hold next (stepOf s serial fix .state)
+    taken-next s g f kept {next} n =
+        let e : stateAt ws ≡ s = let z : good (stateAt ws) ≡ good s = sym g ∙ f in cc in
+        subst (λ (x : State). Hold next (stepOf x serial fix .state)) e
+        (subst (λ (l : List ℤ). Hold l (stepOf (stateAt ws) serial fix .state)) (sym n)
+        (hold-over (stepOf (stateAt ws) serial fix .state) ws (step-storable (stateAt ws) serial fix kept)))
 
     -- index, phase and finished alone are written, since a step keeps the plan
-    pub fix-taken : (d : Decided) (next : List ℤ) (an : List ℕ) (cn : List Float) → AreWords indexPlace ws → stateLength ≤ length ws
-        → holdsState ws ≡ true → steppedBy (planAt ws) d ≡ stepOf (stateAt ws) serial fix → next ≡ splice indexPlace (progressWords (d .progress)) ws
+    pub fix-taken : (d : Decided) (next : List ℤ) (an : List ℕ) (cn : List Float) → AreWords serialPlace indexPlace ws
+        → AreWords indexPlace northsPlace ws → stateLength ≤ length ws → holdsState ws ≡ true → steppedBy (planAt ws) d ≡ stepOf (stateAt ws) serial fix → next ≡ splice indexPlace (progressWords (d .progress)) ws
         → an ≡ over (answerWords (d .answer)) answer → cn ≡ over (commandNumbers (d .answer .command)) command → Fixes (d .answer .refusal) next an cn
     unfolding fixNumber fixNext fixWords fixNumbers
-    fix-taken d next an cn areWords long k e w a c =
+    fix-taken d next an cn first second long k e w a c =
         let g = held ws k in
+        let n = w ∙ progress-is ws long k first (d .progress) ∙ ap (λ (x : Stepped). over (stateWords (x .state)) ws) e in
         by-words _ next an cn (rw g (ap (λ (x : Stepped). x .answer .refusal) e))
-        (rw g (w ∙ progress-is ws long k areWords (d .progress) ∙ ap (λ (x : Stepped). over (stateWords (x .state)) ws) e))
+        (rw g n)
         (rw g (a ∙ ap (λ (x : Stepped). over (answerWords (x .answer)) answer) e))
         (rw g (c ∙ ap (λ (x : Stepped). over (commandNumbers (x .answer .command)) command) e))
-
--- "a refused fix gives back its state": its words are what they were
-pub fix-untouched : (ws : List ℤ) (serial : ℕ) (fix : Fix) → AreWords northsPlace ws → stateLength ≤ length ws → (fixNumber (takenOf ws) serial fix ≡ 0 → ⊥)
-    → fixNext (takenOf ws) ws serial fix ≡ ws
-unfolding fixNumber fixNext
-fix-untouched ws serial fix w l n =
-    by-bool (holdsState ws)
-    (λ h.
-    let g = held ws h in
-    let k = step-refused (stateAt ws) serial fix (λ z. n (rw g z)) in
-    rw g (ap (λ (s : State). over (stateWords s) ws) k ∙ put-back ws l h w))
-    (λ h. let g = not-held ws h in rw g)
+        (record {
+          next = λ _ s f. taken-next s g f (held-storable ws long k first second) n;
+          untouched =
+              λ z.
+              let same = step-refused (stateAt ws) serial fix (λ y. z (ap (λ (x : Stepped). x .answer .refusal) e ∙ y)) in
+              n ∙ ap (λ (s : State). over (stateWords s) ws) same ∙ put-back ws long k first second;
+        })

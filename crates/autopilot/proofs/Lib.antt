@@ -1,3 +1,5 @@
 pub mod CallLaws
+pub mod HeldLaws
 pub mod FixLaws
 pub mod TwoBuffersLaws
+pub mod ExampleLaws

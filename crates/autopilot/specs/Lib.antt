@@ -1,2 +1,5 @@
 pub mod Calls
+pub mod Held
+pub mod CallList
 pub mod TwoBuffers
+pub mod Example

@@ -12,9 +12,13 @@ ghost use Rattle.buffers.specs.Splice.{over};
 ghost use Rattle.guidance.specs.declared.Command.the-variants.{Nothing};
 ghost use Rattle.manager.specs.Step.{steppedBy, stepOf};
 ghost use Rattle.c_answer.specs.Words.{interface, commandNumbers};
-ghost use Rattle.c_state.specs.Stored.{indexPlace, stateLength, planAt, stateAt, holdsState, AreWords};
+ghost use Rattle.c_state.specs.Stored.{serialPlace, indexPlace, northsPlace, stateLength, planAt, stateAt, holdsState, AreWords};
 ghost use Rattle.wpl.specs.Load.{loadOf, loadedOf};
 ghost use Rattle.wpl.specs.Write.{writeOf, writtenOf, bufferOf};
+ghost use Rattle.autopilot.specs.Held.{Untouched, LoadHolds, FixHolds};
+ghost use Rattle.autopilot.specs.CallList.{CallsRun};
+ghost use Rattle.autopilot.specs.TwoBuffers.{AlikeBuffers, BuffersFly};
+ghost use Rattle.autopilot.specs.Example.{Example, Lengths};
 ghost use Rattle.autopilot.specs.Calls.{pairFits, loadFits, loadResult, loadState, loadAnswer, fixFits, refusedWords, fixResult, fixState, fixAnswer, fixCommand, writeFits, writeFrom, writeResult, writeFile, writeAnswer};
 
 // The words of the answers to a load and to a write.
@@ -51,6 +55,8 @@ pub extern "C" fn farnkuppel_load(
     ensures { λ r. ⌜ r ≡ loadResult (loadFits (now (state .entry)) (now (answer .entry))) (loadedOf (loadOf reader (now (file .entry)))) ⌝ }
     ensures { λ _. ⌜ now (state .exit) ≡ loadState (loadFits (now (state .entry)) (now (answer .entry))) (loadedOf (loadOf reader (now (file .entry)))) (now (state .entry)) ⌝ }
     ensures { λ _. ⌜ now (answer .exit) ≡ loadAnswer (loadFits (now (state .entry)) (now (answer .entry))) (loadedOf (loadOf reader (now (file .entry)))) (now (answer .entry)) ⌝ }
+    ensures { λ _. ⌜ LoadHolds (loadFits (now (state .entry)) (now (answer .entry))) reader (now (file .entry)) (now (state .entry)) (now (state .exit)) ⌝ }
+    ensures { λ _. ⌜ AlikeBuffers × BuffersFly ⌝ }
 {
     if !fits(state.len(), answer.len(), LOAD) {
         return refusals::MISFIT as u32;
@@ -67,7 +73,8 @@ pub extern "C" fn farnkuppel_load(
 // One fix of the state that words hold. Their blocks are lent as they lie.
 fn decide_at(words: &[i32], serial: u32, fix: Fix) -> Decided
     requires { ⌜ (stateLength ≤ length (now words)) × (holdsState (now words) ≡ true) ⌝ }
-    ensures { λ r. ⌜ (steppedBy (planAt (now (words .entry))) r ≡ stepOf (stateAt (now (words .entry))) serial fix) × AreWords indexPlace (now (words .entry)) ⌝ }
+    ensures { λ r. ⌜ steppedBy (planAt (now (words .entry))) r ≡ stepOf (stateAt (now (words .entry))) serial fix ⌝ }
+    ensures { λ _. ⌜ AreWords serialPlace indexPlace (now (words .entry)) × AreWords indexPlace northsPlace (now (words .entry)) ⌝ }
 {
     manager::decide(
         c_state::head_at(words),
@@ -116,6 +123,8 @@ pub extern "C" fn farnkuppel_fix(
     ensures { λ _. ⌜ now (state .exit) ≡ fixState (fixFits (now (state .entry)) (now (answer .entry)) (now (command .entry))) (now (state .entry)) serial (record { north = north; east = east; down = down }) ⌝ }
     ensures { λ _. ⌜ now (answer .exit) ≡ fixAnswer (fixFits (now (state .entry)) (now (answer .entry)) (now (command .entry))) (now (state .entry)) serial (record { north = north; east = east; down = down }) (now (answer .entry)) ⌝ }
     ensures { λ _. ⌜ now (command .exit) ≡ fixCommand (fixFits (now (state .entry)) (now (answer .entry)) (now (command .entry))) (now (state .entry)) serial (record { north = north; east = east; down = down }) (now (command .entry)) ⌝ }
+    ensures { λ r. ⌜ FixHolds (fixFits (now (state .entry)) (now (answer .entry)) (now (command .entry))) serial (record { north = north; east = east; down = down }) (now (state .entry)) (now (state .exit)) r ⌝ }
+    ensures { λ _. ⌜ CallsRun × (Example × Lengths) ⌝ }
 {
     if !fits(state.len(), answer.len(), c_answer::ANSWER) {
         return refusals::MISFIT as u32;
@@ -166,6 +175,7 @@ pub extern "C" fn farnkuppel_write(
     ensures { λ r. ⌜ r ≡ writeResult (writeFits (now (state .entry)) (now (answer .entry))) (writeFrom (now (state .entry)) version (length (now (file .entry)))) ⌝ }
     ensures { λ _. ⌜ now (file .exit) ≡ writeFile (writeFits (now (state .entry)) (now (answer .entry))) (writeFrom (now (state .entry)) version (length (now (file .entry)))) (now (file .entry)) ⌝ }
     ensures { λ _. ⌜ now (answer .exit) ≡ writeAnswer (writeFits (now (state .entry)) (now (answer .entry))) (writeFrom (now (state .entry)) version (length (now (file .entry)))) (now (answer .entry)) ⌝ }
+    ensures { λ r. ⌜ Untouched r (now (file .entry)) (now (file .exit)) ⌝ }
 {
     if !fits(state.len(), answer.len(), WRITE) {
         return refusals::MISFIT as u32;

@@ -6,6 +6,7 @@ ghost use Prim.Native.Nat.{_+_, _≤_};
 ghost use lib.ListN.{length};
 ghost use Rattle.buffers.specs.Splice.{over, splice};
 ghost use Rattle.c_answer.specs.Words.{wordOf, flagOf, kindOf, senseWord, senseOf, answerWords, commandNumbers};
+ghost use Rattle.c_answer.specs.Example.{AnswerExample, CommandExample};
 
 // The number of the interface for C. It grows whenever a word moves or a function changes.
 pub const INTERFACE: u32 = 2;
@@ -83,6 +84,7 @@ fn sense(command: Command) -> u32
 pub fn put_answer(answer: Answer, part: &mut [u32])
     requires { ⌜ 8 ≤ length (now part) ⌝ }
     ensures { λ _. ⌜ now (part .exit) ≡ over (answerWords answer) (now (part .entry)) ⌝ }
+    ensures { λ _. ⌜ AnswerExample ⌝ }
 {
     let command = answer.command;
     let values = [
@@ -110,6 +112,7 @@ pub fn put_answer_at(answer: Answer, at: usize, words: &mut [u32])
 pub fn put_command(command: Command, part: &mut [f32])
     requires { ⌜ 6 ≤ length (now part) ⌝ }
     ensures { λ _. ⌜ now (part .exit) ≡ over (commandNumbers command) (now (part .entry)) ⌝ }
+    ensures { λ _. ⌜ CommandExample ⌝ }
 {
     match command {
         Command::Line { start, direction } => buffers::put_floats(

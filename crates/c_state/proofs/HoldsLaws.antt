@@ -11,16 +11,26 @@ use lib.Dec.{leb}
 use borrow.Author.Tests.{leb-true, ltb-true, le-leb, lt-leb, lt-ltb, le-ltb}
 use Rattle.refusals.proofs.Bools.{both-first, both-second, both-on, both-off, both-off-second}
 use Rattle.plan.specs.Places.{numberAt}
-use Rattle.c_state.specs.Stored.{modePlace, radiusPlace, indexPlace, phasePlace, finishedPlace, wordAt, holdsState, AreWords}
+use Rattle.c_state.specs.Stored.{serialPlace, modePlace, radiusPlace, indexPlace, phasePlace, finishedPlace, northsPlace, wordAt, holdsState, AreWords}
 
--- ---- the words of the plan's head
+-- ---- the words of the plan's head, and of the progress
 pub four-words : (ws : List ℤ) → SFits w32 (numberAt ws 0) → SFits w32 (numberAt ws 1) → SFits w32 (numberAt ws 2) → SFits w32 (numberAt ws 3)
-    → AreWords indexPlace ws
-four-words ws a b c d zero h = a
-four-words ws a b c d (suc zero) h = b
-four-words ws a b c d (suc (suc zero)) h = c
-four-words ws a b c d (suc (suc (suc zero))) h = d
-four-words ws a b c d (suc (suc (suc (suc i)))) h = absurd (omega arith)
+    → AreWords serialPlace indexPlace ws
+four-words ws a b c d zero _ h = a
+four-words ws a b c d (suc zero) _ h = b
+four-words ws a b c d (suc (suc zero)) _ h = c
+four-words ws a b c d (suc (suc (suc zero))) _ h = d
+four-words ws a b c d (suc (suc (suc (suc i)))) _ h = absurd (omega arith)
+
+pub three-words : (ws : List ℤ) → SFits w32 (numberAt ws 4) → SFits w32 (numberAt ws 5) → SFits w32 (numberAt ws 6) → AreWords indexPlace northsPlace ws
+three-words ws a b c (suc (suc (suc (suc zero)))) l h = a
+three-words ws a b c (suc (suc (suc (suc (suc zero))))) l h = b
+three-words ws a b c (suc (suc (suc (suc (suc (suc zero)))))) l h = c
+three-words ws a b c (suc (suc (suc (suc (suc (suc (suc i))))))) l h = absurd (omega arith)
+three-words ws a b c (suc (suc (suc zero))) l h = absurd (omega arith)
+three-words ws a b c (suc (suc zero)) l h = absurd (omega arith)
+three-words ws a b c (suc zero) l h = absurd (omega arith)
+three-words ws a b c zero l h = absurd (omega arith)
 
 pub record Holds (ws : List ℤ) : Type 0 where
   pub mode : wordAt ws modePlace ≤ 2

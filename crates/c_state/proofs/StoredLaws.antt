@@ -8,7 +8,7 @@ use native.Mathlib.Numerals.{add-one}
 use native.Mathlib.Omega.{arith}
 use lib.Dec.{eqb}
 use lib.IntN.{ℤ, pos}
-use lib.ListN.{length, take, drop, replicate, length-append}
+use lib.ListN.{length, take, drop, replicate, length-append, length-drop}
 use lib.Seq.{length-take-le, take-at, drop-at, drop-cons, drop-drop, take-add}
 use mir.Syntax.{w32}
 use mir.Val.{toZ, ofZ}
@@ -32,7 +32,7 @@ use Rattle.manager.specs.declared.State.{State}
 use Rattle.manager.specs.State.{emptyState}
 use Rattle.c_answer.specs.Words.{wordOf, flagOf}
 use Rattle.c_answer.proofs.WordLaws.{word-kept}
-use Rattle.c_state.specs.Stored.{modePlace, radiusPlace, indexPlace, phasePlace, finishedPlace, northsPlace, eastsPlace, downsPlace, coursesPlace, stateLength, modeWord, modeAt, headWords, progressWords, stateWords, wordAt, headAt, progressAt, part, planAt, stateAt, holdsState, takenOf, AreWords, Storable}
+use Rattle.c_state.specs.Stored.{serialPlace, modePlace, radiusPlace, countPlace, indexPlace, phasePlace, finishedPlace, northsPlace, eastsPlace, downsPlace, coursesPlace, stateLength, modeWord, modeAt, headWords, progressWords, stateWords, wordAt, headAt, progressAt, part, planAt, stateAt, holdsState, takenOf, AreWords, Storable}
 use Rattle.c_state.proofs.HoldsLaws.{holds-means}
 
 -- ---- the words of a mode and of a flag, there and back
@@ -117,37 +117,44 @@ module _ (ws : List ℤ) where
       ∙ ap (λ (l : List ℤ). part northsPlace ws ++ l) (joined eastsPlace (mostPoints + mostPoints))
       ∙ joined northsPlace (mostPoints + (mostPoints + mostPoints))
 
-  -- ---- words that hold a state, and another progress of its plan
-  module _ (n : ℕ) (words : AreWords n ws) where
-    back : (i : ℕ) → i < n → toZ w32 (wordAt ws i) ≡ numberAt ws i
-    unfolding wordAt
-    back i l = toZ-ofZ (words i l)
+  module _ (long : stateLength ≤ length ws) where
+    whole : (at : ℕ) → at ≤ coursesPlace → length (part at ws) ≡ mostPoints
+    whole at l = length-take-le mostPoints (drop at ws) (simp length-drop (omega arith))
 
-    count-back : (i : ℕ) → i < n → toZ w32 (wordOf (wordAt ws i)) ≡ numberAt ws i
+    pub blocks-lent : (h : Head) → Filled (seen h (part northsPlace ws) (part eastsPlace ws) (part downsPlace ws) (part coursesPlace ws))
+    blocks-lent h = record { north = whole northsPlace (omega arith); east = whole eastsPlace (omega arith); down = whole downsPlace (omega arith); course = whole coursesPlace (omega arith) }
+
+  -- ---- words that hold a state, and another progress of its plan
+  module _ (m n : ℕ) (words : AreWords m n ws) where
+    back : (i : ℕ) → m ≤ i → i < n → toZ w32 (wordAt ws i) ≡ numberAt ws i
     unfolding wordAt
-    count-back i l = ap (toZ w32) (word-kept (ofZ w32 (numberAt ws i)) (fits-ofZ (words i l) .fits)) ∙ toZ-ofZ (words i l)
+    back i k l = toZ-ofZ (words i k l)
+
+    count-back : (i : ℕ) → m ≤ i → i < n → toZ w32 (wordOf (wordAt ws i)) ≡ numberAt ws i
+    unfolding wordAt
+    count-back i k l = ap (toZ w32) (word-kept (ofZ w32 (numberAt ws i)) (fits-ofZ (words i k l) .fits)) ∙ toZ-ofZ (words i k l)
 
   module _ (long : stateLength ≤ length ws) (h : holdsState ws ≡ true) where
-    head-there : AreWords indexPlace ws → headWords (headAt ws) ≡ take indexPlace ws
+    head-there : AreWords serialPlace indexPlace ws → headWords (headAt ws) ≡ take indexPlace ws
     head-there words =
         (λ t.
-        back 4 words 0 (omega arith) t
-        ∷ (ap (toZ w32) (mode-word (wordAt ws 1) (holds-means ws h .mode)) ∙ back 4 words 1 (omega arith)) t
-        ∷ back 4 words 2 (omega arith) t
-        ∷ count-back 4 words 3 (omega arith) t
+        back 0 4 words 0 (omega arith) (omega arith) t
+        ∷ (ap (toZ w32) (mode-word (wordAt ws 1) (holds-means ws h .mode)) ∙ back 0 4 words 1 (omega arith) (omega arith)) t
+        ∷ back 0 4 words 2 (omega arith) (omega arith) t
+        ∷ count-back 0 4 words 3 (omega arith) (omega arith) t
         ∷ [])
         ∙ some 4 0 (omega arith)
 
-    progress-there : AreWords northsPlace ws → progressWords (progressAt ws) ≡ take 3 (drop indexPlace ws)
+    progress-there : AreWords indexPlace northsPlace ws → progressWords (progressAt ws) ≡ take 3 (drop indexPlace ws)
     progress-there words =
         (λ t.
-        count-back 7 words 4 (omega arith) t
-        ∷ back 7 words 5 (omega arith) t
-        ∷ (ap (toZ w32) (flag-word (wordAt ws 6) (holds-means ws h .finished)) ∙ back 7 words 6 (omega arith)) t
+        count-back 4 7 words 4 (omega arith) (omega arith) t
+        ∷ back 4 7 words 5 (omega arith) (omega arith) t
+        ∷ (ap (toZ w32) (flag-word (wordAt ws 6) (holds-means ws h .finished)) ∙ back 4 7 words 6 (omega arith) (omega arith)) t
         ∷ [])
         ∙ some 3 indexPlace (omega arith)
 
-    pub progress-is : AreWords indexPlace ws → (p : Progress)
+    pub progress-is : AreWords serialPlace indexPlace ws → (p : Progress)
         → splice indexPlace (progressWords p) ws ≡ over (stateWords (record { plan = planAt ws; progress = p })) ws
     unfolding stateWords
     progress-is words p =
@@ -159,11 +166,27 @@ module _ (ws : List ℤ) where
         ∙ followed northsPlace (stateLength - northsPlace) (take indexPlace ws ++ new) ws n (omega arith)
         ∙ append-assoc (take indexPlace ws) new (drop northsPlace ws))
 
-    pub put-back : AreWords northsPlace ws → over (stateWords (stateAt ws)) ws ≡ ws
-    put-back words =
-        sym (progress-is (λ i l. words i (omega arith)) (progressAt ws))
+    pub put-back : AreWords serialPlace indexPlace ws → AreWords indexPlace northsPlace ws → over (stateWords (stateAt ws)) ws ≡ ws
+    put-back first words =
+        sym (progress-is first (progressAt ws))
         ∙ ap (λ (l : List ℤ). splice indexPlace l ws) (progress-there words)
         ∙ put-there indexPlace 3 ws (omega arith)
+
+    -- and the state that they hold is one that words can keep
+    below : {m n : ℕ} → AreWords m n ws → (i : ℕ) → m ≤ i → i < n → wordAt ws i < 4294967296
+    unfolding wordAt
+    below words i k l = fits-ofZ (words i k l) .fits
+
+    pub held-storable : AreWords serialPlace indexPlace ws → AreWords indexPlace northsPlace ws → Storable (stateAt ws)
+    held-storable first words =
+        record {
+          serial = below first serialPlace (omega arith) (omega arith);
+          radius = holds-means ws h .radius;
+          count = below first countPlace (omega arith) (omega arith);
+          index = below words indexPlace (omega arith) (omega arith);
+          phase = holds-means ws h .phase;
+          filled = blocks-lent long (headAt ws);
+        }
 
 -- ---- a state in words, and whatever stands behind it
 module _ (all : List ℤ) where

@@ -2,7 +2,7 @@
 -- number of the plan. Assumes nothing.
 use mathlib.Core.Bool.{Bool}
 use mathlib.Core.List.{List, [], _∷_, _++_, map}
-use Prim.Native.Nat.{ℕ, _+_, _<_}
+use Prim.Native.Nat.{ℕ, _+_, _≤_, _<_}
 use lib.Dec.{eqb, leb, ltb}
 use lib.IntN.{ℤ}
 use lib.ListN.{take, drop}
@@ -119,9 +119,9 @@ holdsState ws =
 unfoldable pub takenOf : List ℤ → Outcome State
 takenOf ws = check (holdsState ws) noState (good (stateAt ws))
 
--- ---- what the laws are about: numbers of a slice of i32, up to a place
-abbrev pub AreWords : ℕ → List ℤ → Type 0
-AreWords n ws = (i : ℕ) → i < n → SFits w32 (numberAt ws i)
+-- ---- what the laws are about: numbers of a slice of i32, from a place up to another
+abbrev pub AreWords : ℕ → ℕ → List ℤ → Type 0
+AreWords from to ws = (i : ℕ) → from ≤ i → i < to → SFits w32 (numberAt ws i)
 
 -- a state that words can keep: its small numbers fit the types of the code, count and index a word
 pub record Storable (s : State) : Type 0 where

@@ -11,7 +11,8 @@ ghost use mir.Syntax.{w32};
 ghost use mir.Val.{SFits};
 ghost use Rattle.buffers.specs.Splice.{over, splice};
 ghost use Rattle.plan.specs.Places.{numberAt};
-ghost use Rattle.c_state.specs.Stored.{indexPlace, northsPlace, stateLength, modeWord, modeAt, inWords, headWords, progressWords, wordAt, headAt, progressAt, holdsState, AreWords};
+ghost use Rattle.c_state.specs.Layout.{Layout, Edges};
+ghost use Rattle.c_state.specs.Stored.{serialPlace, indexPlace, northsPlace, stateLength, modeWord, modeAt, inWords, headWords, progressWords, wordAt, headAt, progressAt, holdsState, AreWords};
 
 // Where a state's words stand: these seven, then as many norths, easts, downs and courses as a plan has places.
 pub const SERIAL: usize = 0;
@@ -90,6 +91,7 @@ pub fn word_at(words: &[i32], i: usize) -> u32
 pub fn holds_state(words: &[i32]) -> bool
     requires { ⌜ stateLength ≤ length (now words) ⌝ }
     ensures { λ r. ⌜ r ≡ holdsState (now (words .entry)) ⌝ }
+    ensures { λ _. ⌜ Edges ⌝ }
 {
     if word_at(words, MODE) <= DUBINS {
         if word_at(words, RADIUS) < TWO_BYTES {
@@ -104,7 +106,7 @@ pub fn holds_state(words: &[i32]) -> bool
 // What words that hold a state say of its plan beside the numbers. All words of it are read.
 pub fn head_at(words: &[i32]) -> Head
     requires { ⌜ (stateLength ≤ length (now words)) × (holdsState (now words) ≡ true) ⌝ }
-    ensures { λ r. ⌜ (r ≡ headAt (now (words .entry))) × AreWords indexPlace (now (words .entry)) ⌝ }
+    ensures { λ r. ⌜ (r ≡ headAt (now (words .entry))) × AreWords serialPlace indexPlace (now (words .entry)) ⌝ }
 {
     let mode = mode_of(word_at(words, MODE));
     Head {
@@ -115,10 +117,10 @@ pub fn head_at(words: &[i32]) -> Head
     }
 }
 
-// How far they say that it is flown.
+// How far they say that it is flown. All words of it are read.
 pub fn progress_at(words: &[i32]) -> Progress
     requires { ⌜ (stateLength ≤ length (now words)) × (holdsState (now words) ≡ true) ⌝ }
-    ensures { λ r. ⌜ r ≡ progressAt (now (words .entry)) ⌝ }
+    ensures { λ r. ⌜ (r ≡ progressAt (now (words .entry))) × AreWords indexPlace northsPlace (now (words .entry)) ⌝ }
 {
     Progress {
         index: word_at(words, INDEX) as usize,
@@ -143,6 +145,7 @@ fn put_bits(bits: &[u32], part: &mut [i32])
 pub fn put_head(head: Head, progress: Progress, words: &mut [i32])
     requires { ⌜ northsPlace ≤ length (now words) ⌝ }
     ensures { λ _. ⌜ now (words .exit) ≡ over (headWords head ++ progressWords progress) (now (words .entry)) ⌝ }
+    ensures { λ _. ⌜ Layout ⌝ }
 {
     let mode = head.mode;
     let bits = [

@@ -1,11 +1,13 @@
 // The desk's check of a plan file and the notes of one, for C (document 01: "The desk's C program gets the refusal number of a file for a reader
 // version, 0 if it loads"). The header is include/farnkuppel.h.
 ghost use mathlib.Core.Path.{_≡_};
+ghost use Prim.Native.Nat.{_≤_};
 ghost use lib.ListN.{length};
 ghost use Rattle.c_answer.specs.Words.{interface};
 ghost use Rattle.wpl.specs.Load.{loadOf, loadedOf};
 ghost use Rattle.wpl.specs.Note.{noteOf};
-ghost use Rattle.desk.specs.Calls.{noteFits, noteResult, noteBuffer, noteAnswer};
+ghost use Rattle.desk.specs.Calls.{mostNote, noteFits, noteResult, noteBuffer, noteAnswer};
+ghost use Rattle.desk.specs.Example.{NoteExample};
 
 // The most bytes of a note, and the words of the answer to a note.
 const MOST_NOTE: usize = records::NOTE.high;
@@ -49,6 +51,7 @@ pub extern "C" fn farnkuppel_note(
     ensures { λ r. ⌜ r ≡ noteResult (noteFits (length (now (note .entry))) (length (now (answer .entry)))) ⌝ }
     ensures { λ _. ⌜ now (note .exit) ≡ noteBuffer (noteFits (length (now (note .entry))) (length (now (answer .entry)))) (noteOf (now (file .entry)) number) (now (note .entry)) ⌝ }
     ensures { λ _. ⌜ now (answer .exit) ≡ noteAnswer (noteFits (length (now (note .entry))) (length (now (answer .entry)))) (noteOf (now (file .entry)) number) (now (answer .entry)) ⌝ }
+    ensures { λ _. ⌜ (length (noteOf (now (file .entry)) number) ≤ mostNote) × NoteExample ⌝ }
 {
     if !fits(note.len(), answer.len()) {
         return refusals::MISFIT as u32;

@@ -54,7 +54,7 @@ returns c =
     let p = c .before .before .before .before .before in
     let h = p .before in
     let a = h .before .args in
-    (decided-there (a .words .now) (a .serial) (a .fix) (h .head-at .ensures .0) (p .progress-at .ensures) (c .decide .ensures), h .head-at .ensures .1)
+    (decided-there (a .words .now) (a .serial) (a .fix) (h .head-at .ensures .0) (p .progress-at .ensures .0) (c .decide .ensures), (h .head-at .ensures .1, p .progress-at .ensures .1))
 
 pub decide-at-spec : {M : Type 1} → statement M
 decide-at-spec =

@@ -8,6 +8,8 @@ use borrow.Author.Needs.{needs}
 use Rattle.c_state.specs.Stored.{stateLength}
 use Rattle.autopilot.specs.Calls.{pairFits}
 use Rattle.autopilot.proofs.CallLaws.{pair-means}
+use Rattle.autopilot.proofs.HeldLaws.{calls-run}
+use Rattle.autopilot.proofs.ExampleLaws.{in-numbers, lengths}
 use Rattle.autopilot.proofs.FixLaws.{pair-short, command-short, fix-fits, fix-unfit, fix-refused, fix-taken}
 use Rattle.autopilot.proofs.farnkuppel_fix.Statement.{statement}
 use Rattle.autopilot.proofs.farnkuppel_fix.Tie as tie
@@ -29,7 +31,7 @@ cast-result c = search needs
 returns : tie.Need-returns
 returns c =
     let l = fix-unfit _ _ _ _ _ _ (pair-short _ _ _ (sym (c .before .fits2 .ensures) ∙ not-true _ (c .if1 .taken))) in
-    (l .result, (l .words, (l .answered, l .commanded)))
+    (l .result, (l .words, (l .answered, (l .commanded, (l .holds, (calls-run, (in-numbers, lengths)))))))
 
 cast-result-2 : tie.Need-cast-result-2
 cast-result-2 c = search needs
@@ -37,7 +39,7 @@ cast-result-2 c = search needs
 returns-2 : tie.Need-returns-2
 returns-2 c =
     let l = fix-unfit _ _ _ _ _ _ (command-short _ _ _ (c .if2 .taken)) in
-    (l .result, (l .words, (l .answered, l .commanded)))
+    (l .result, (l .words, (l .answered, (l .commanded, (l .holds, (calls-run, (in-numbers, lengths)))))))
 
 holds-state-requires : tie.Need-holds-state-requires
 holds-state-requires c κs = long (c .before .before) .0
@@ -66,14 +68,14 @@ returns-3 c =
     let d = k .before .before .before in
     let e = d .before in
     let f = fix-fits _ _ _ (fitting e) (d .if2 .left) in
-    let n = sym (k .before .holds-state .ensures) ∙ not-true _ (k .if3 .taken) in
+    let n = sym (k .before .holds-state .ensures .0) ∙ not-true _ (k .if3 .taken) in
     let l = fix-refused _ _ _ _ _ _ f _ _ n (r .refuse .ensures .0) (r .refuse .ensures .1) in
-    (l .result, (l .words, (l .answered, l .commanded)))
+    (l .result, (l .words, (l .answered, (l .commanded, (l .holds, (calls-run, (in-numbers, lengths)))))))
 
 decide-at-requires : tie.Need-decide-at-requires
 decide-at-requires c κs =
     let k = c .before in
-    (long (k .before .before .before .before) .0, sym (k .before .holds-state .ensures) ∙ not-false _ (k .if3 .left))
+    (long (k .before .before .before .before) .0, sym (k .before .holds-state .ensures .0) ∙ not-false _ (k .if3 .left))
 
 put-answer-requires : tie.Need-put-answer-requires
 put-answer-requires c κs = long (c .before .before .before .before .before .before .before .before .before) .1
@@ -106,10 +108,10 @@ returns-4 c =
     let d = k .before .before .before in
     let e = d .before in
     let f = fix-fits _ _ _ (fitting e) (d .if2 .left) in
-    let n = sym (k .before .holds-state .ensures) ∙ not-false _ (k .if3 .left) in
-    let l = fix-taken _ _ _ _ _ _ f _ _ _ _ (x .decide-at .ensures .1) (long e .0) n (x .decide-at .ensures .0) (g .put-progress .ensures)
-    (a .put-answer .ensures) (q .put-command .ensures) in
-    (l .result, (l .words, (l .answered, l .commanded)))
+    let n = sym (k .before .holds-state .ensures .0) ∙ not-false _ (k .if3 .left) in
+    let l = fix-taken _ _ _ _ _ _ f _ _ _ _ (x .decide-at .ensures .1 .0) (x .decide-at .ensures .1 .1) (long e .0) n (x .decide-at .ensures .0) (g .put-progress .ensures)
+    (a .put-answer .ensures .0) (q .put-command .ensures .0) in
+    (l .result, (l .words, (l .answered, (l .commanded, (l .holds, (calls-run, (in-numbers, lengths)))))))
 
 pub farnkuppel-fix-spec : {M : Type 1} → statement M
 farnkuppel-fix-spec =

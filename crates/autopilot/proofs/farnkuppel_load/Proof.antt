@@ -1,14 +1,17 @@
 -- `farnkuppel_load` fills the blocks of the words and puts the words before them, or writes nothing where a slice is too short. Assumes nothing.
 use mathlib.Core.Path.{_≡_, refl, sym, ap, _∙_}
 use mathlib.Core.List.{[], _∷_}
-use Prim.Native.Nat.{ℕ, _≤_}
+use Prim.Native.Nat.{ℕ, _≤_, _<_}
 use native.Mathlib.Omega.{arith}
 use lib.ListN.{length}
 use borrow.Author.Tests.{not-true, not-false}
 use Rattle.buffers.specs.Splice.{over}
 use Rattle.c_state.specs.Stored.{stateLength}
+use Rattle.wpl.specs.declared.Entered.{Entered}
 use Rattle.wpl.proofs.LoadLaws.{loaded-filled}
 use Rattle.autopilot.proofs.CallLaws.{pair-means, all-lent, load-unfit, load-fit}
+use Rattle.autopilot.proofs.HeldLaws.{load-holds-none, load-holds}
+use Rattle.autopilot.proofs.TwoBuffersLaws.{alike-buffers, buffers-fly}
 use borrow.Author.Needs.{needs}
 use Rattle.autopilot.proofs.farnkuppel_load.Statement.{statement}
 use Rattle.autopilot.proofs.farnkuppel_load.Tie as tie
@@ -25,8 +28,9 @@ cast-result c = search needs
 
 returns : tie.Need-returns
 returns c =
-    let l = load-unfit _ _ _ _ (sym (c .before .fits2 .ensures) ∙ not-true _ (c .if1 .taken)) in
-    (l .result, (l .words, l .answered))
+    let u = sym (c .before .fits2 .ensures) ∙ not-true _ (c .if1 .taken) in
+    let l = load-unfit _ _ _ _ u in
+    (l .result, (l .words, (l .answered, (load-holds-none _ _ _ _ _ u, (alike-buffers, buffers-fly)))))
 
 sub-load-into : tie.Need-sub-load-into
 sub-load-into c = search needs
@@ -70,9 +74,11 @@ returns-2 c =
     let e = d .before .before in
     let s = e .before .before .before .before in
     let l = load-fit _ _ (s .args .state .now) (s .args .answer .now) (sym (e .before .fits2 .ensures) ∙ not-false _ (e .if1 .left)) _ _ _ (loaded-filled _ _ _ refl) (omega (arith, long e .0))
-    (d .load-into .ensures .0) (d .load-into .ensures .1) (h .put-head .ensures)
+    (d .load-into .ensures .0) (d .load-into .ensures .1) (h .put-head .ensures .0)
     (p .put-words .ensures ∙ ap (λ (n : ℕ). over (d .load-into .result .refusal ∷ n ∷ []) (s .args .answer .now)) (w .word .ensures)) in
-    (l .result, (l .words, l .answered))
+    let word : d .load-into .result .head .serial < 4294967296 = w .before .struct-known .given .1 .1 .0 .0 .fits in
+    let held = load-holds _ _ _ _ _ _ word (ap (λ (x : Entered). x .head .serial) (d .load-into .ensures .0)) (l .words) in
+    (l .result, (l .words, (l .answered, (held, (alike-buffers, buffers-fly)))))
 
 pub farnkuppel-load-spec : {M : Type 1} → statement M
 farnkuppel-load-spec =

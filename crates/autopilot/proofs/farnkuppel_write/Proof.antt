@@ -31,7 +31,7 @@ cast-result c = search needs
 returns : tie.Need-returns
 returns c =
     let l = write-unfit _ _ _ _ (sym (c .before .fits2 .ensures) ∙ not-true _ (c .if1 .taken)) in
-    (l .result, (l .written, l .answered))
+    (l .result, (l .written, (l .answered, l .kept)))
 
 holds-state-requires : tie.Need-holds-state-requires
 holds-state-requires c κs = long c .0
@@ -52,14 +52,14 @@ returns-2 : tie.Need-returns-2
 returns-2 c =
     let h = c .before .before .before .before .before .before in
     let e = h .before in
-    let k = not-held _ (sym (h .holds-state .ensures) ∙ not-true _ (c .before .before .before .before .before .if2 .taken)) in
+    let k = not-held _ (sym (h .holds-state .ensures .0) ∙ not-true _ (c .before .before .before .before .before .if2 .taken)) in
     let l = write-none _ _ _ _ (sym (e .before .fits2 .ensures) ∙ not-false _ (e .if1 .left)) _ _ (from-none _ _ _ k) refl (c .before .before .put-words .ensures) in
-    (l .result, (l .written, l .answered))
+    (l .result, (l .written, (l .answered, l .kept)))
 
 write-at-requires : tie.Need-write-at-requires
 write-at-requires c κs =
     let h = c .before .before in
-    (long (h .before) .0, sym (h .holds-state .ensures) ∙ not-false _ (c .before .if2 .left))
+    (long (h .before) .0, sym (h .holds-state .ensures .0) ∙ not-false _ (c .before .if2 .left))
 
 cast-number : tie.Need-cast-number
 cast-number c = search needs
@@ -91,14 +91,14 @@ returns-3 c =
     let h = m .before in
     let e = h .before in
     let s = e .before .before .before .before in
-    let o = from-state _ _ _ _ (held _ (sym (h .holds-state .ensures) ∙ not-false _ (m .if2 .left))) in
+    let o = from-state _ _ _ _ (held _ (sym (h .holds-state .ensures .0) ∙ not-false _ (m .if2 .left))) in
     let x = w .write-at .result in
     let l = write-fit _ _ _ _ (sym (e .before .fits2 .ensures) ∙ not-false _ (e .if1 .left)) x _ _ (w .write-at .ensures .0 ∙ ap writtenOf o)
     (w .write-at .ensures .1 ∙ ap (λ (q : Outcome (List ℕ)). bufferOf q (s .args .file .now)) o)
     (p .put-words2 .ensures
     ∙ ap (λ (n : ℕ). over (x .refusal ∷ n ∷ v .word2 .result ∷ []) (s .args .answer .now)) (v .before .word .ensures)
     ∙ ap (λ (n : ℕ). over (x .refusal ∷ wordOf (x .place) ∷ n ∷ []) (s .args .answer .now)) (v .word2 .ensures)) in
-    (l .result, (l .written, l .answered))
+    (l .result, (l .written, (l .answered, l .kept)))
 
 pub farnkuppel-write-spec : {M : Type 1} → statement M
 farnkuppel-write-spec =

@@ -35,7 +35,7 @@ returns c =
     let q = c .before .before in
     let p = q .before .before .before .before in
     let f = p .before .before .before in
-    (simp (← f .word-at3 .ensures .0, ← f .before .word-at2 .ensures .0, ← f .before .before .word-at .ensures .0) (p .put-words .ensures), q .put-command .ensures)
+    (simp (← f .word-at3 .ensures .0, ← f .before .word-at2 .ensures .0, ← f .before .before .word-at .ensures .0) (p .put-words .ensures), q .put-command .ensures .0)
 
 pub refuse-spec : {M : Type 1} → statement M
 refuse-spec =

@@ -3,7 +3,8 @@ use mathlib.Core.Path.{ap, _∙_}
 use lib.ListN.{length}
 use Rattle.manager.specs.declared.State.{State}
 use Rattle.wpl.specs.Write.{writeOf, writtenOf, bufferOf}
-use Rattle.autopilot.proofs.CallLaws.{blocks-lent, state-there}
+use Rattle.c_state.proofs.StoredLaws.{blocks-lent}
+use Rattle.autopilot.proofs.CallLaws.{state-there}
 use borrow.Author.Needs.{needs}
 use Rattle.autopilot.proofs.write_at.Statement.{statement}
 use Rattle.autopilot.proofs.write_at.Tie as tie
@@ -62,7 +63,7 @@ returns c =
     let p = w .before .before .before .before .before .before in
     let h = p .before in
     let a = h .before .before .args in
-    let v = state-there (a .words .now) (h .head-at .ensures .0) (p .progress-at .ensures) in (
+    let v = state-there (a .words .now) (h .head-at .ensures .0) (p .progress-at .ensures .0) in (
       w .write-from .ensures .0 ∙ ap (λ (s : State). writtenOf (writeOf s (a .version) (length (a .file .now)))) v,
       w .write-from .ensures .1 .0 ∙ ap (λ (s : State). bufferOf (writeOf s (a .version) (length (a .file .now))) (a .file .now)) v,
     )

@@ -1,5 +1,6 @@
 -- `put_answer` puts the words of an answer at the front of a part. Assumes nothing.
 use borrow.Author.Needs.{needs}
+use Rattle.c_answer.proofs.ExampleLaws.{answers}
 use Rattle.c_answer.specs.Words.{answerWords}
 use Rattle.c_answer.proofs.put_answer.Statement.{statement}
 use Rattle.c_answer.proofs.put_answer.Tie as tie
@@ -43,9 +44,11 @@ returns c =
     let p = c .before .before in
     let f = p .before .before .before in
     let w = f .before .before in
-    let s = w .before .before in
-    simp (← f .flag .ensures, ← w .word2 .ensures, ← s .sense .ensures, ← s .before .kind .ensures, ← s .before .before .word .ensures)
-    (p .put-words .ensures)
+    let s = w .before .before in (
+      simp (← f .flag .ensures, ← w .word2 .ensures, ← s .sense .ensures, ← s .before .kind .ensures, ← s .before .before .word .ensures)
+          (p .put-words .ensures),
+      answers,
+    )
 
 pub put-answer-spec : {M : Type 1} → statement M
 put-answer-spec =

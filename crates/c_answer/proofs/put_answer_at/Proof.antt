@@ -27,7 +27,7 @@ returns : tie.Need-returns
 returns c =
     let p = c .before .before .put-answer in
     let a = c .before .before .before .before .before .args in
-    lent (a .at) (answerWords (a .answer)) (a .words .now) (p .last .1 .0) (p .ensures)
+    lent (a .at) (answerWords (a .answer)) (a .words .now) (p .last .1 .0) (p .ensures .0)
 
 pub put-answer-at-spec : {M : Type 1} → statement M
 put-answer-at-spec =

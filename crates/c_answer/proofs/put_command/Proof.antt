@@ -1,6 +1,7 @@
 -- `put_command` puts the numbers of a command at the front of a part. Assumes nothing.
 use lib.Ieee.{ofBits}
 use borrow.Author.Needs.{needs}
+use Rattle.c_answer.proofs.ExampleLaws.{commands}
 use Rattle.c_answer.specs.Words.{commandNumbers}
 use Rattle.c_answer.proofs.put_command.Statement.{statement}
 use Rattle.c_answer.proofs.put_command.Tie as tie
@@ -37,21 +38,21 @@ same-length c = search needs
 
 returns : tie.Need-returns
 unfolding commandNumbers
-returns c = let p = c .before .before in rw (p .before .before .before .before .command .given .1) (p .put-floats .ensures)
+returns c = let p = c .before .before in (rw (p .before .before .before .before .command .given .1) (p .put-floats .ensures), commands)
 
 same-length-2 : tie.Need-same-length-2
 same-length-2 c = search needs
 
 returns-2 : tie.Need-returns-2
 unfolding commandNumbers ofBits
-returns-2 c = let p = c .before .before in rw (p .before .before .before .before .command2 .given .1) (p .put-floats2 .ensures)
+returns-2 c = let p = c .before .before in (rw (p .before .before .before .before .command2 .given .1) (p .put-floats2 .ensures), commands)
 
 same-length-3 : tie.Need-same-length-3
 same-length-3 c = search needs
 
 returns-3 : tie.Need-returns-3
 unfolding commandNumbers ofBits
-returns-3 c = let p = c .before .before in rw (p .before .before .before .enum-told .given .1) (p .put-floats3 .ensures)
+returns-3 c = let p = c .before .before in (rw (p .before .before .before .enum-told .given .1) (p .put-floats3 .ensures), commands)
 
 pub put-command-spec : {M : Type 1} → statement M
 put-command-spec =

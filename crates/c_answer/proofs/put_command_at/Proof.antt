@@ -27,7 +27,7 @@ returns : tie.Need-returns
 returns c =
     let p = c .before .before .put-command in
     let a = c .before .before .before .before .before .args in
-    lent (a .at) (commandNumbers (a .command)) (a .numbers .now) (p .last .1 .0) (p .ensures)
+    lent (a .at) (commandNumbers (a .command)) (a .numbers .now) (p .last .1 .0) (p .ensures .0)
 
 pub put-command-at-spec : {M : Type 1} → statement M
 put-command-at-spec =

@@ -4,6 +4,7 @@ use Prim.Native.Nat.{ℕ}
 use lib.Dec.{leb}
 use borrow.Author.Needs.{needs}
 use Rattle.c_state.proofs.HoldsLaws.{no-mode, no-radius, no-phase, last-test}
+use Rattle.c_state.proofs.LayoutLaws.{edges}
 use Rattle.c_state.proofs.holds_state.Statement.{statement}
 use Rattle.c_state.proofs.holds_state.Tie as tie
 
@@ -23,17 +24,18 @@ returns : tie.Need-returns
 returns c =
     let p = c .before .before in
     let r = p .before .before in
-    ap (λ (n : ℕ). leb n 1) (c .word-at4 .ensures .0)
-    ∙ sym (last-test _ (r .before .before .word-at .ensures .0) (r .before .if1 .taken) (r .word-at2 .ensures .0) (p .before .if2 .taken) (p .word-at3 .ensures .0) (c .before .if3 .taken))
+    let tests = last-test _ (r .before .before .word-at .ensures .0) (r .before .if1 .taken) (r .word-at2 .ensures .0) (p .before .if2 .taken)
+    (p .word-at3 .ensures .0) (c .before .if3 .taken) in
+    (ap (λ (n : ℕ). leb n 1) (c .word-at4 .ensures .0) ∙ sym tests, edges)
 
 returns-2 : tie.Need-returns-2
-returns-2 c = sym (no-phase _ (c .before .word-at3 .ensures .0) (c .if3 .left))
+returns-2 c = (sym (no-phase _ (c .before .word-at3 .ensures .0) (c .if3 .left)), edges)
 
 returns-3 : tie.Need-returns-3
-returns-3 c = sym (no-radius _ (c .before .word-at2 .ensures .0) (c .if2 .left))
+returns-3 c = (sym (no-radius _ (c .before .word-at2 .ensures .0) (c .if2 .left)), edges)
 
 returns-4 : tie.Need-returns-4
-returns-4 c = sym (no-mode _ (c .before .word-at .ensures .0) (c .if1 .left))
+returns-4 c = (sym (no-mode _ (c .before .word-at .ensures .0) (c .if1 .left)), edges)
 
 pub holds-state-spec : {M : Type 1} → statement M
 holds-state-spec =

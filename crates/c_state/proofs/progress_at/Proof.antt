@@ -1,7 +1,7 @@
 -- `progress_at` reads how far words say that a plan is flown. Assumes nothing.
 use lib.Dec.{eqb}
 use borrow.Author.Needs.{needs}
-use Rattle.c_state.proofs.HoldsLaws.{phase-fits}
+use Rattle.c_state.proofs.HoldsLaws.{three-words, phase-fits}
 use Rattle.c_state.proofs.progress_at.Statement.{statement}
 use Rattle.c_state.proofs.progress_at.Tie as tie
 
@@ -25,7 +25,10 @@ word-at-requires-3 c κs = search needs
 returns : tie.Need-returns
 returns c =
     let w = c .before in
-    λ t. record { index = w .before .word-at .ensures .0 t; phase = w .word-at2 .ensures .0 t; finished = eqb (c .word-at3 .ensures .0 t) 1 }
+    let i = w .before in (
+      (λ t. record { index = i .word-at .ensures .0 t; phase = w .word-at2 .ensures .0 t; finished = eqb (c .word-at3 .ensures .0 t) 1 }),
+      three-words (i .before .args .words .now) (i .word-at .ensures .1) (w .word-at2 .ensures .1) (c .word-at3 .ensures .1),
+    )
 
 pub progress-at-spec : {M : Type 1} → statement M
 progress-at-spec =

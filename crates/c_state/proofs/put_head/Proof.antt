@@ -1,5 +1,6 @@
 -- `put_head` puts the words before the blocks. Assumes nothing.
 use borrow.Author.Needs.{needs}
+use Rattle.c_state.proofs.LayoutLaws.{layout}
 use Rattle.c_state.proofs.put_head.Statement.{statement}
 use Rattle.c_state.proofs.put_head.Tie as tie
 
@@ -34,7 +35,7 @@ returns : tie.Need-returns
 returns c =
     let f = c .before .before .before .before in
     let i = f .before .before in
-    simp (← f .flag .ensures, ← i .word2 .ensures, ← i .before .word .ensures, ← i .before .before .before .mode-word .ensures) (c .before .put-bits .ensures)
+    (simp (← f .flag .ensures, ← i .word2 .ensures, ← i .before .word .ensures, ← i .before .before .before .mode-word .ensures) (c .before .put-bits .ensures), layout)
 
 pub put-head-spec : {M : Type 1} → statement M
 put-head-spec =

@@ -6,7 +6,8 @@ use lib.ListN.{length}
 use lib.Seq.{sets-eq}
 use borrow.Author.Tests.{not-true, not-false}
 use borrow.Author.Needs.{needs}
-use Rattle.desk.proofs.NoteLaws.{given-short}
+use Rattle.desk.proofs.NoteLaws.{note-short, given-short}
+use Rattle.desk.proofs.ExampleLaws.{in-numbers}
 use Rattle.desk.proofs.CallLaws.{fits-means, show-unfit, show-fit}
 use Rattle.desk.proofs.farnkuppel_note.Statement.{statement}
 use Rattle.desk.proofs.farnkuppel_note.Tie as tie
@@ -20,7 +21,7 @@ cast-result c = search needs
 returns : tie.Need-returns
 returns c =
     let l = show-unfit _ _ _ _ (sym (c .before .fits2 .ensures) ∙ not-true _ (c .if1 .taken)) in
-    (l .result, (l .shown, l .answered))
+    (l .result, (l .shown, (l .answered, (note-short _ _, in-numbers))))
 
 note-requires : tie.Need-note-requires
 note-requires c κs = search needs
@@ -57,7 +58,7 @@ returns-2 c =
     let f = sym (e .before .fits2 .ensures) ∙ not-false _ (e .if1 .left) in
     let l = show-fit _ _ _ _ f _ _ _ (n .note .ensures) (p .put-bytes .ensures)
     (sets-eq (length (n .note .result .now) ∷ []) (s .args .answer .now) 0 (fits-means _ _ f .1)) in
-    (l .result, (l .shown, l .answered))
+    (l .result, (l .shown, (l .answered, (note-short _ _, in-numbers))))
 
 pub farnkuppel-note-spec : {M : Type 1} → statement M
 farnkuppel-note-spec =
