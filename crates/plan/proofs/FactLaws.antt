@@ -6,7 +6,7 @@ use Rattle.fillets.specs.Corners.{turnOf}
 use Rattle.plan.specs.Rules.{cornerNumber, endsNumber}
 use Rattle.plan.specs.Facts.{PlanFacts}
 use Rattle.plan.proofs.LoadedLaws.{loaded-stands}
-use Rattle.plan.proofs.Examples.{each}
+use Rattle.plan.proofs.Anchors.{each}
 
 pub plan-facts : PlanFacts
 unfolding choose cornerNumber endsNumber

@@ -4,7 +4,7 @@ use Rattle.records.specs.Kinds.{table}
 use Rattle.records.specs.Facts.{RecordFacts}
 use Rattle.records.proofs.WalkLaws.{walk-flat, flat-walk}
 use Rattle.records.proofs.VersionLaws.{older-refuses, older-takes, older-only, agree}
-use Rattle.records.proofs.Examples.{each}
+use Rattle.records.proofs.Anchors.{each}
 
 pub record-facts : RecordFacts
 unfolding table

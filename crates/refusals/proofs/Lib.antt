@@ -1,4 +1,4 @@
-pub mod Examples
+pub mod Anchors
 pub mod Bools
 pub mod OutcomeLaws
 pub mod SweepLaws

@@ -9,7 +9,7 @@ use Rattle.integers.proofs.ChooseLaws.{choose-true, choose-false}
 use Rattle.refusals.specs.Outcome.{good, refused, check, andThen, refusalOf, isGood}
 use Rattle.refusals.specs.Sweep.{done, sweep}
 use Rattle.refusals.specs.Order.{Chain, Lowest, Order}
-use Rattle.refusals.proofs.Examples.{literals}
+use Rattle.refusals.proofs.Anchors.{literals}
 use Rattle.refusals.proofs.Bools.{by-bool}
 use Rattle.refusals.proofs.SweepLaws.{every-means, every-of}
 

@@ -23,6 +23,7 @@ ghost use Rattle.records.specs.Gather.{headerLength};
 ghost use Rattle.records.specs.Walk.{flat};
 ghost use Rattle.records.specs.Kinds.{pointBytes};
 ghost use Rattle.buffers.specs.Splice.{over, splice};
+ghost use Rattle.writer.specs.Facts.{FileFacts};
 ghost use Rattle.writer.specs.File.{planRecords, fileOf, Writable};
 ghost use Rattle.writer.specs.Pieces.{mark, headerBytes, recordBytes, radiusBytes, placeBytes, placesBytes};
 
@@ -238,6 +239,7 @@ pub fn put_plan<'a>(
 )
     requires { ⌜ Writable (seen head (now norths) (now easts) (now downs) (now courses)) × (length (fileOf version (seen head (now norths) (now easts) (now downs) (now courses))) ≤ length (now file)) ⌝ }
     ensures { λ _. ⌜ now (file .exit) ≡ over (fileOf version (seen head (now (norths .entry)) (now (easts .entry)) (now (downs .entry)) (now (courses .entry)))) (now (file .entry)) ⌝ }
+    ensures { λ _. ⌜ FileFacts ⌝ }
 {
     put_header(version, head.serial, area_length(head) as u16, file);
     let at = put_radius(head.radius, file);

@@ -49,7 +49,7 @@ returns-2 c =
     let p = none-refused _ _ _ _ (e .before .write-refusal .ensures) (e .if1 .left) in
     let w = write-passes _ _ _ p in (
       ap (λ (n : ℕ). record { refusal = 0; place = 0; length = n }) (c .file-length .ensures (a .version) (a .norths .now) (a .easts .now) (a .downs .now) (a .courses .now)) ∙ ap writtenOf (sym w),
-      (c .before .before .before .put-plan .ensures ∙ ap (λ (o : Outcome (List ℕ)). bufferOf o (s .args .file .now)) (sym w), round-trip _ (s .pre)),
+      (c .before .before .before .put-plan .ensures .0 ∙ ap (λ (o : Outcome (List ℕ)). bufferOf o (s .args .file .now)) (sym w), round-trip _ (s .pre)),
     )
 
 pub write-from-spec : {M : Type 1} → statement M

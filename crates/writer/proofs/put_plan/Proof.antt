@@ -3,6 +3,7 @@ use borrow.Author.Needs.{needs}
 use native.Mathlib.Omega.{arith}
 use Rattle.plan.specs.declared.Plan.{Plan}
 use Rattle.plan.specs.Places.{seen}
+use Rattle.writer.proofs.Anchors.{file-facts}
 use Rattle.writer.proofs.PieceLaws.{file-room, all-written}
 use Rattle.writer.proofs.put_plan.Statement.{statement}
 use Rattle.writer.proofs.put_plan.Tie as tie
@@ -42,8 +43,8 @@ returns c =
     let n = x .before .before in
     let s = n .before .before in
     let a = s .args in
-    all-written (a .version) (plan s) (a .file .now) (n .area-length .ensures .0 (a .norths .now) (a .easts .now) (a .downs .now) (a .courses .now))
-    (x .put-header .ensures) (y .put-radius .ensures) (z .put-places .ensures)
+    let w = n .area-length .ensures .0 (a .norths .now) (a .easts .now) (a .downs .now) (a .courses .now) in
+    (all-written (a .version) (plan s) (a .file .now) w (x .put-header .ensures) (y .put-radius .ensures) (z .put-places .ensures), file-facts)
 
 pub put-plan-spec : {M : Type 1} → statement M
 put-plan-spec = tie.close (tie.spec area-length-requires cast-put-header put-header-requires put-radius-requires put-places-requires same-length returns)

@@ -1,5 +1,5 @@
--- The examples of limits, rules and plans, computed from the definitions. They stand before all laws, so that a definition that misses document 01
--- is refused by its example. Assumes nothing.
+-- The examples of limits, rules and plans, computed from the definitions. The checker takes the files by name, this one before all laws, so that a
+-- definition that misses document 01 is refused by its example. Assumes nothing.
 use mathlib.Core.Path.{refl}
 use Rattle.integers.specs.Choose.{choose}
 use Rattle.integers.specs.Root.{nextRoot, rootBy, rootOf}
