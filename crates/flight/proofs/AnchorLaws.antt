@@ -1,7 +1,7 @@
 -- The words of demand 3 and of two flights mean what they have to. Assumes nothing.
 use mathlib.Core.Path.{_≡_, refl, sym, ap, subst, _∙_}
 use mathlib.Core.Bool.{true, false}
-use mathlib.Core.List.{List, [], _∷_}
+use mathlib.Core.List.{List, [], _∷_, _++_}
 use mathlib.Core.Logic.{_⊎_, inl, inr, _↔_}
 use Prim.Native.Nat.{ℕ, _≤_, _<_}
 use native.Mathlib.Omega.{arith}
@@ -11,16 +11,22 @@ use borrow.Author.Tests.{eqb-true, eqb-false}
 use Rattle.refusals.specs.Outcome.{Outcome, good, refused}
 use Rattle.refusals.specs.Sweep.{done}
 use Rattle.refusals.proofs.Bools.{by-bool}
+use Rattle.plane.specs.declared.Point.{Point}
+use Rattle.units.specs.declared.Position.the-variants.{At}
+use Rattle.units.specs.Position.{positionOf}
+use Rattle.guidance.specs.declared.Command.the-variants.{Nothing}
+use Rattle.guidance.specs.Commands.{PlainCommand, HasCommand}
 use Rattle.manager.specs.declared.State.{State}
 use Rattle.manager.specs.declared.Stepped.{Stepped}
 use Rattle.records.specs.Walk.{fills}
 use Rattle.records.specs.Kinds.{holdsNewer}
 use Rattle.wpl.specs.declared.Loaded.{Loaded}
-use Rattle.wpl.specs.Header.{versionOf, headerOf}
+use Rattle.wpl.specs.Header.{versionOf, serialOf, headerOf}
 use Rattle.wpl.specs.Load.{recordsOf, loadOf, loadedOf}
 use Rattle.wpl.proofs.LoadLaws.{loaded-good, loaded-refused}
-use Rattle.flight.specs.Run.{Named, stepBy, run, none, next, Alike, AlikeRuns, ended, onward}
+use Rattle.flight.specs.Run.{Named, stepBy, run, none, next, Alike, AlikeRuns, ended, onward, Answered, PlainRun}
 use Rattle.flight.specs.Demand.{IsOlder, Loads, RefusesAsTooNew, IsLater, Demand, cutOut}
+use Rattle.flight.specs.Flight.{lastOf}
 use Rattle.flight.specs.TwoFlights.{flownWith, answersWith, commandsWith, TwoFlights}
 use Rattle.flight.specs.Anchors.{Outright, Anchored}
 use Rattle.flight.proofs.LaterLaws.{cut-loads, uncut-loads}
@@ -93,6 +99,19 @@ module _ (r : ℕ) (f : List ℕ) where
         (loadedOf (loadOf r f) .place, k .0 ∙ ap (λ (n : ℕ). refused n (loadedOf (loadOf r f) .place)) e),
   )
 
+-- ---- the answer to the last fix of a list
+last-answered : (s : State) (n : ℕ) (before : List Named) (x : Named) → Answered n (before ++ (x ∷ [])) (run s (before ++ (x ∷ []))) → x .serial ≡ n → (p : Point)
+    → positionOf (x .fix) ≡ At p
+    → (stepBy (lastOf s (run s before)) x .answer .refusal ≡ 0) × (stepBy (lastOf s (run s before)) x .answer .command ≡ Nothing → ⊥)
+unfolding run lastOf
+last-answered s n [] x a e p at = let y = a .0 e p at in (y .0, λ none. subst HasCommand none (y .1))
+last-answered s n (y ∷ ys) x a e p at = last-answered (stepBy s y .state) n ys x (a .1) e p at
+
+last-plain : (s : State) (before : List Named) (x : Named) → PlainRun (run s (before ++ (x ∷ []))) → PlainCommand (stepBy (lastOf s (run s before)) x .answer .command)
+unfolding run lastOf
+last-plain s [] x a = a .0
+last-plain s (y ∷ ys) x a = last-plain (stepBy s y .state) ys x (a .1)
+
 -- ---- demand 3 by its own words, and without them
 module _ (d : Demand) where
   by-number : (f : List ℕ) (s : State) → loadOf 3 f ≡ good s → (r : ℕ) → 1 ≤ r → r ≤ 2
@@ -119,6 +138,9 @@ module _ (d : Demand) where
         runs = λ f s t r low high h g fixes. runs-mean (d .alike f s t r (older-numbers r low high) h g fixes);
         second = two-fixes;
         later = λ f v h w s. by-bytes f (record { version = v; header = h; records = w }) s;
+        valid = λ r f s h. d .valid r f s h;
+        flies = λ r f s h before x e p at. last-answered s (serialOf f) before x (d .flies r f s h (before ++ (x ∷ []))) e p at;
+        plain = λ s before x. last-plain s before x (d .plain s (before ++ (x ∷ [])));
       }
 
 -- ---- two flights

@@ -4,48 +4,22 @@ use mathlib.Core.Path.{_≡_, ap, _∙_}
 use mathlib.Core.Logic.{_↔_}
 use mathlib.Core.Bool.{true}
 use mathlib.Core.List.{List}
-use Prim.Native.Nat.{ℕ, _-_, _≤_}
+use Prim.Native.Nat.{ℕ, _≤_}
 use native.Mathlib.Omega.{arith}
-use lib.Dec.{leb, ltb, eqb}
-use lib.ListN.{length, drop, length-drop}
-use borrow.Author.Tests.{ltb-true, leb-true, eqb-true}
-use Rattle.refusals.specs.Numbers.{fileTooShort, noMark, noVersion, noSerial, wrongArea}
+use lib.ListN.{length, drop}
 use Rattle.refusals.specs.Outcome.{good}
 use Rattle.refusals.specs.Sweep.{done}
-use Rattle.refusals.proofs.Bools.{both-first, both-second}
-use Rattle.refusals.proofs.OutcomeLaws.{check-means}
 use Rattle.manager.specs.declared.State.{State}
 use Rattle.records.specs.Walk.{Walked, walk, flat}
 use Rattle.records.specs.Kinds.{newest, Parts, noParts, sift}
 use Rattle.records.specs.Gather.{headerLength}
 use Rattle.records.proofs.WalkLaws.{flat-walk}
 use Rattle.records.proofs.CutLaws.{cut-out, sift-fills, sift-shorter}
-use Rattle.wpl.specs.Header.{mostArea, versionOf, serialOf, areaOf, areaFits, headerOf}
+use Rattle.wpl.specs.Header.{mostArea, versionOf, serialOf, headerOf}
 use Rattle.wpl.specs.Load.{recordsOf, partsOf, settleOf}
-use Rattle.wpl.proofs.HeaderLaws.{header-good, header-version, header-serial, header-records}
+use Rattle.wpl.proofs.HeaderLaws.{header-good, header-version, header-serial, header-records, serial-some, area-most}
 use Rattle.flight.specs.Demand.{IsCut, Loads, IsLater, cutOut}
 use Rattle.wpl.proofs.LoadStepLaws.{load-steps, steps-load}
-
--- ---- what refusals 4 and 5 say of a header that they pass
-module _ (f : List ℕ) (passed : headerOf f ≡ good done) where
-  last-tests : (ltb 0 (serialOf f) ≡ true) × (areaFits f ≡ true)
-  unfolding headerOf
-  last-tests =
-      let a = check-means _ fileTooShort _ done passed in
-      let b = check-means _ noMark _ done (a .1) in
-      let c = check-means _ noVersion _ done (b .1) in
-      let d = check-means _ noSerial _ done (c .1) in
-      (d .0, check-means _ wrongArea _ done (d .1) .0)
-
-  serial-some : serialOf f ≡ 0 → ⊥
-  serial-some e = omega (arith, ltb-true 0 (serialOf f) (last-tests .0))
-
-  area-most : length (drop headerLength f) ≤ mostArea
-  unfolding areaFits
-  area-most =
-      let a = both-first (eqb (areaOf f) (length f - headerLength)) (leb (areaOf f) mostArea) (last-tests .1) in
-      let b = both-second (eqb (areaOf f) (length f - headerLength)) (leb (areaOf f) mostArea) (last-tests .1) in
-      omega (arith, length-drop headerLength f, eqb-true (areaOf f) (length f - headerLength) a, leb-true (areaOf f) mostArea b)
 
 -- ---- the cut file: version three, the same serial, the records that are left, and a header that passes
 module _ (f : List ℕ) (later : IsLater f) where

@@ -8,8 +8,14 @@ use Prim.Native.Nat.{ℕ, _≤_, _<_}
 use lib.Ieee.{Float}
 use Rattle.refusals.specs.Outcome.{good}
 use Rattle.refusals.specs.Sweep.{done}
+use Rattle.plane.specs.declared.Point.{Point}
+use Rattle.units.specs.declared.Position.the-variants.{At}
+use Rattle.units.specs.Position.{positionOf}
+use Rattle.guidance.specs.declared.Command.the-variants.{Nothing}
+use Rattle.guidance.specs.Commands.{PlainCommand}
 use Rattle.manager.specs.declared.State.{State}
 use Rattle.manager.specs.declared.Stepped.{Stepped}
+use Rattle.manager.specs.State.{validOf}
 use Rattle.records.specs.Walk.{flat, fills}
 use Rattle.records.specs.Kinds.{holdsNewer, sift}
 use Rattle.writer.specs.File.{withHeader}
@@ -17,6 +23,7 @@ use Rattle.wpl.specs.Header.{versionOf, serialOf, headerOf}
 use Rattle.wpl.specs.Load.{recordsOf, loadOf, loadedOf}
 use Rattle.flight.specs.Run.{Named, stepBy, run, Alike, AlikeRuns}
 use Rattle.flight.specs.Demand.{IsOlder, Loads, RefusesAsTooNew, IsCut, IsLater, Demand}
+use Rattle.flight.specs.Flight.{lastOf}
 use Rattle.flight.specs.TwoFlights.{flownWith, answersWith, commandsWith, TwoFlights}
 use Rattle.flight.specs.Witnesses.{All, claims}
 
@@ -28,6 +35,11 @@ pub record Outright : Type 0 where
   pub second : (s : State) (x y : Named) → run s (x ∷ y ∷ []) ≡ stepBy s x ∷ stepBy (stepBy s x .state) y ∷ []
   pub later : (f : List ℕ) → 3 < versionOf f → headerOf f ≡ good done → fills (recordsOf f) ≡ true → (s : State)
       → (loadOf 3 f ≡ good s) ↔ (loadOf 3 (withHeader 3 (serialOf f) (flat (sift (recordsOf f)))) ≡ good s)
+  -- the answer to a fix after any others
+  pub valid : (r : ℕ) (f : List ℕ) (s : State) → loadOf r f ≡ good s → validOf s ≡ true
+  pub flies : (r : ℕ) (f : List ℕ) (s : State) → loadOf r f ≡ good s → (before : List Named) (x : Named) → x .serial ≡ serialOf f → (p : Point) → positionOf (x .fix) ≡ At p
+      → (stepBy (lastOf s (run s before)) x .answer .refusal ≡ 0) × (stepBy (lastOf s (run s before)) x .answer .command ≡ Nothing → ⊥)
+  pub plain : (s : State) (before : List Named) (x : Named) → PlainCommand (stepBy (lastOf s (run s before)) x .answer .command)
 
 pub record Anchored : Type 0 where
   -- alike is equal

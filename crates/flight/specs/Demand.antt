@@ -1,7 +1,7 @@
 -- Demand 3, sentence by sentence, over the definitions that the contracts of `wpl::load` and `State::step` cite. Assumes nothing.
 -- Commands are equal bit for bit: an f32's bits are a function of its value in the logic, but for a NaN, which is one value there and many
--- patterns on the machine; and no number of a command is a NaN (metres-plain and direction-plain of units/proofs/QuotientLaws). So `≡` of two
--- commands says that their bits are equal.
+-- patterns on the machine, and but for the two zeros; and no number of a command is a NaN or −0.0 (the field `plain`). So `≡` of two commands
+-- says that their bits are equal.
 use mathlib.Core.Path.{_≡_}
 use mathlib.Core.Bool.{true, false}
 use mathlib.Core.List.{List}
@@ -12,12 +12,13 @@ use Rattle.refusals.specs.Outcome.{good, refused}
 use Rattle.refusals.specs.Sweep.{done}
 use Rattle.manager.specs.declared.State.{State}
 use Rattle.manager.specs.declared.Stepped.{Stepped}
+use Rattle.manager.specs.State.{validOf}
 use Rattle.records.specs.Walk.{flat, fills}
 use Rattle.records.specs.Kinds.{holdsNewer, sift}
 use Rattle.writer.specs.File.{withHeader}
 use Rattle.wpl.specs.Header.{versionOf, serialOf, headerOf}
 use Rattle.wpl.specs.Load.{recordsOf, loadOf}
-use Rattle.flight.specs.Run.{Named, run, Chain, AlikeRuns}
+use Rattle.flight.specs.Run.{Named, run, Chain, AlikeRuns, Answered, PlainRun}
 
 -- "a reader of version one or two"
 abbrev pub IsOlder : ℕ → Type 0
@@ -65,3 +66,9 @@ pub record Demand : Type 0 where
   pub cut : (f : List ℕ) → IsLater f → ((s : State) × Loads 3 f s) ↔ ((s : State) × Loads 3 (cutOut f) s)
   -- "Both then give the same state."
   pub same : (f : List ℕ) → IsLater f → (s t : State) → Loads 3 f s → Loads 3 (cutOut f) t → s ≡ t
+  -- A loaded plan flies: of any file that any reader loads, the state is one that 14 does not refuse, and in every list each fix that names its
+  -- serial at a position in range is answered with a line or a circle.
+  pub valid : (r : ℕ) (f : List ℕ) (s : State) → Loads r f s → validOf s ≡ true
+  pub flies : (r : ℕ) (f : List ℕ) (s : State) → Loads r f s → (fixes : List Named) → Answered (serialOf f) fixes (run s fixes)
+  -- "Commands are equal bit for bit": in every run from any state every number of a command is a finite f32 and not −0.0.
+  pub plain : (s : State) (fixes : List Named) → PlainRun (run s fixes)

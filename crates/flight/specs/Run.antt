@@ -3,7 +3,11 @@
 use mathlib.Core.Path.{_≡_}
 use mathlib.Core.List.{List, [], _∷_}
 use Prim.Native.Nat.{ℕ}
+use Rattle.plane.specs.declared.Point.{Point}
 use Rattle.units.specs.declared.Fix.{Fix}
+use Rattle.units.specs.declared.Position.the-variants.{At}
+use Rattle.units.specs.Position.{positionOf}
+use Rattle.guidance.specs.Commands.{PlainCommand, HasCommand}
 use Rattle.manager.specs.declared.State.{State}
 use Rattle.manager.specs.declared.Stepped.{Stepped}
 use Rattle.manager.specs.Step.{stepOf}
@@ -41,3 +45,17 @@ pub record Alike (a b : Stepped) : Type 0 where
 pub data AlikeRuns : List Stepped → List Stepped → Type 0 where
   ended : AlikeRuns [] []
   onward : (a b : Stepped) (xs ys : List Stepped) → Alike a b → AlikeRuns xs ys → AlikeRuns (a ∷ xs) (b ∷ ys)
+
+-- ---- what the answers to a list of fixes have to be, fix by fix, and equally many
+-- a fix that names the serial at a position in range is answered with a line or a circle
+abbrev pub Answered : ℕ → List Named → List Stepped → Type 0
+Answered serial [] [] = Unit {0}
+Answered serial (x ∷ xs) (o ∷ os) =
+    (x .serial ≡ serial → (p : Point) → positionOf (x .fix) ≡ At p → (o .answer .refusal ≡ 0) × HasCommand (o .answer .command)) × Answered serial xs os
+Answered serial [] (o ∷ os) = ⊥
+Answered serial (x ∷ xs) [] = ⊥
+
+-- every number of every command is a finite f32 and not −0.0
+abbrev pub PlainRun : List Stepped → Type 0
+PlainRun [] = Unit {0}
+PlainRun (o ∷ os) = PlainCommand (o .answer .command) × PlainRun os

@@ -5,11 +5,17 @@ use mathlib.Core.Bool.{false}
 use mathlib.Core.List.{List, [], _∷_, _++_}
 use Prim.Native.Nat.{ℕ, _-_}
 use lib.IntN.{ℤ, pos, negsuc}
+use lib.Ieee.{binary32, ofBits}
 use lib.ListN.{length, replicate}
 use Rattle.refusals.specs.Outcome.{good, refused}
+use Rattle.plane.specs.declared.Point.{Point}
+use Rattle.units.specs.declared.Fix.{Fix}
+use Rattle.units.specs.declared.Position.the-variants.{At}
+use Rattle.units.specs.Position.{positionOf}
 use Rattle.plan.specs.declared.Mode.{Mode}
 use Rattle.plan.specs.declared.Mode.the-variants.{Lines, Fillets, Dubins}
 use Rattle.manager.specs.declared.State.{State}
+use Rattle.manager.specs.Step.{stepOf}
 use Rattle.wpl.specs.Load.{loadOf}
 use Rattle.wpl.specs.Write.{writeOf}
 use Rattle.flight.specs.Demand.{Loads, IsLater, cutOut}
@@ -96,6 +102,10 @@ filletsState = stateOf Fillets 200 []
 abbrev pub dubinsState : State
 dubinsState = stateOf Dubins 200 (pos 0 ∷ pos 0 ∷ pos 2048 ∷ [])
 
+-- 50 m east of the first point, which is 500 decimetres beside the first leg: 0x42480000 is 50.0 and 0xC2C80000 is −100.0
+abbrev pub fix : Fix
+fix = record { north = ofBits binary32 0; east = ofBits binary32 0x4248_0000; down = ofBits binary32 0xC2C8_0000 }
+
 -- ---- what a claim says
 pub data Claim : Type 0 where
   -- a reader loads a file to a state
@@ -108,6 +118,8 @@ pub data Claim : Type 0 where
   cuts : List ℕ → List ℕ → Claim
   -- a file is not marked later
   stays : List ℕ → Claim
+  -- a fix that names the state's serial is at a point, and is flown with a heading
+  heads : State → Fix → Point → ℕ → Claim
 
 abbrev pub Holds : Claim → Type 0
 Holds (loads r f s) = Loads r f s
@@ -115,6 +127,8 @@ Holds (refuses r f number place) = loadOf r f ≡ refused number place
 Holds (writes s version f) = writeOf s version (length f) ≡ good f
 Holds (cuts f g) = IsLater f × (cutOut f ≡ g)
 Holds (stays f) = IsLater f → ⊥
+Holds (heads s fix p heading) =
+    (positionOf fix ≡ At p) × ((stepOf s (s .plan .head .serial) fix .answer .refusal ≡ 0) × (stepOf s (s .plan .head .serial) fix .answer .heading ≡ heading))
 
 abbrev pub All : List Claim → Type 0
 All [] = Unit {0}
@@ -136,4 +150,5 @@ claims =
     ∷ loads 3 laterFile linesState
     ∷ loads 3 cutFile linesState
     ∷ stays dubinsFile
+    ∷ heads linesState fix (record { north = pos 0; east = pos 500; down = negsuc 999 }) 3712
     ∷ []

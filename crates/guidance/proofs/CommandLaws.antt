@@ -28,8 +28,8 @@ use Rattle.dubins.specs.declared.Path.{Path}
 use Rattle.dubins.specs.declared.Found.{Found}
 use Rattle.dubins.specs.declared.Found.the-variants.{Shortest, Missing}
 use Rattle.dubins.specs.Cases.{startsRight, endsRight, centreOf, circlesOf, caseExists, touchOf, pathOf}
-use Rattle.dubins.specs.Choice.{casePath, shortestOf}
-use Rattle.dubins.proofs.ShortestLaws.{shortest-case}
+use Rattle.dubins.specs.Choice.{casePath, shortestOf, Wins, IsShortest}
+use Rattle.dubins.proofs.ShortestLaws.{shortest-is}
 use Rattle.guidance.specs.declared.Guidance.{Guidance}
 use Rattle.guidance.specs.Commands.{placeMetres, legMetres, lineCommand, courseCommand, circleCommand, PlainMetres, IsCommand, CommandMeans}
 use Rattle.guidance.specs.Guide.{legGuide, lineGuide, circleGuide, filletLine, filletCircle, filletGuide, lastLegGuide, straightGuide, startPassed, endPassed, dubinsGuide}
@@ -135,7 +135,8 @@ module _ (ends : Ends) (h : InArea (ends .start)) (k : InArea (ends .end)) (r : 
   shortest-reaches : (path : Path) → shortestOf ends ≡ Shortest path → Reaches path
   unfolding casePath
   shortest-reaches path e =
-      subst FoundReaches (shortest-case ends path e) (found-reaches (caseExists ends (path .case)) _ (case-reaches (path .case) _ _))
+      let w : Wins ends path = subst (IsShortest ends) e (shortest-is ends) in
+      subst FoundReaches (w .own) (found-reaches (caseExists ends (path .case)) _ (case-reaches (path .case) _ _))
 
   straight-command : (path : Path) (p : Point) → Near 1000000 (path .z1) → IsCommand (straightGuide (ends .start) path p .command)
   unfolding straightGuide

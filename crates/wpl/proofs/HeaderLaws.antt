@@ -5,13 +5,14 @@ use mathlib.Core.Bool.{true}
 use mathlib.Core.List.{List, _++_}
 use Prim.Native.Nat.{ℕ, _+_, _-_, _≤_}
 use native.Mathlib.Omega.{arith}
-use lib.ListN.{length, drop}
-use borrow.Author.Tests.{le-leb, lt-ltb, eq-eqb}
+use lib.Dec.{eqb, leb, ltb}
+use lib.ListN.{length, drop, length-drop}
+use borrow.Author.Tests.{le-leb, lt-ltb, eq-eqb, ltb-true, leb-true, eqb-true}
 use Rattle.refusals.specs.Numbers.{fileTooShort, noMark, noVersion, noSerial, wrongArea}
 use Rattle.refusals.specs.Outcome.{good}
 use Rattle.refusals.specs.Sweep.{done, both}
-use Rattle.refusals.proofs.Bools.{both-true}
-use Rattle.refusals.proofs.OutcomeLaws.{check-true}
+use Rattle.refusals.proofs.Bools.{both-true, both-first, both-second}
+use Rattle.refusals.proofs.OutcomeLaws.{check-true, check-means}
 use Rattle.records.specs.Numbers.{u16At, u32At, u16Bytes, u32Bytes}
 use Rattle.records.specs.Walk.{Walked, walk, fills, flat}
 use Rattle.records.specs.Gather.{headerLength}
@@ -66,3 +67,24 @@ module _ (version serial : ℕ) (area : List ℕ) where
 pub header-records : (version serial : ℕ) (w : Walked) → fills w ≡ true → recordsOf (withHeader version serial (flat w)) ≡ w
 unfolding recordsOf
 header-records version serial w h = ap walk (header-rest version serial (flat w)) ∙ walk-flat w h
+
+-- ---- what refusals 4 and 5 say of a header that they pass
+module _ (f : List ℕ) (passed : headerOf f ≡ good done) where
+  last-tests : (ltb 0 (serialOf f) ≡ true) × (areaFits f ≡ true)
+  unfolding headerOf
+  last-tests =
+      let a = check-means _ fileTooShort _ done passed in
+      let b = check-means _ noMark _ done (a .1) in
+      let c = check-means _ noVersion _ done (b .1) in
+      let d = check-means _ noSerial _ done (c .1) in
+      (d .0, check-means _ wrongArea _ done (d .1) .0)
+
+  pub serial-some : serialOf f ≡ 0 → ⊥
+  serial-some e = omega (arith, ltb-true 0 (serialOf f) (last-tests .0))
+
+  pub area-most : length (drop headerLength f) ≤ mostArea
+  unfolding areaFits
+  area-most =
+      let a = both-first (eqb (areaOf f) (length f - headerLength)) (leb (areaOf f) mostArea) (last-tests .1) in
+      let b = both-second (eqb (areaOf f) (length f - headerLength)) (leb (areaOf f) mostArea) (last-tests .1) in
+      omega (arith, length-drop headerLength f, eqb-true (areaOf f) (length f - headerLength) a, leb-true (areaOf f) mostArea b)

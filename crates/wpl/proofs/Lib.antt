@@ -7,3 +7,5 @@ pub mod PlanPartLaws
 pub mod WriteLaws
 pub mod RoundTripLaws
 pub mod LongLaws
+pub mod StartLaws
+pub mod OrderLaws

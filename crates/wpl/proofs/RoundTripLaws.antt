@@ -25,7 +25,7 @@ use Rattle.writer.specs.File.{planRecords, fileOf}
 use Rattle.wpl.specs.Header.{headerOf}
 use Rattle.wpl.specs.Load.{partsOf, settleOf, finishOf, bodyOf, loadOf}
 use Rattle.wpl.specs.Write.{carriedSince, bufferOf}
-use Rattle.wpl.specs.RoundTrip.{RoundTrip}
+use Rattle.wpl.specs.RoundTrip.{RoundTrip, EveryReader}
 use Rattle.wpl.proofs.WriteLaws.{between-test, since-first, write-passes, good-passes}
 use Rattle.wpl.proofs.HeaderLaws.{header-version, header-serial, header-good, header-records}
 use Rattle.wpl.proofs.PlanRecordLaws.{plan-fills, plan-size, partsOfPlan, gather-plan}
@@ -80,3 +80,9 @@ round-trip s filled =
           let e : fileOf version (s .plan) ≡ bytes = let w = write-passes s version room p in cc in
           ap (loadOf reader) (sym e) ∙ load-kept (s .plan) filled (valid-stands s (p .valid)) reader version (p .carried) l n;
     }
+
+pub every-reader : (s : State) → RoundTrip s → EveryReader s
+every-reader s t = λ room bytes h. (
+  t .loads 1 room 1 bytes h (omega arith) (omega arith),
+  (t .loads 1 room 2 bytes h (omega arith) (omega arith), t .loads 1 room 3 bytes h (omega arith) (omega arith)),
+)

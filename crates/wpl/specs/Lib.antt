@@ -3,3 +3,5 @@ pub mod Load
 pub mod Note
 pub mod Write
 pub mod RoundTrip
+pub mod Starts
+pub mod Order

@@ -22,3 +22,9 @@ pub record RoundTrip (s : State) : Type 0 where
   -- it loads as that plan at its start
   pub loads : (version room reader : ℕ) (bytes : List ℕ) → writeOf s version room ≡ good bytes → version ≤ reader → reader ≤ newest
       → loadOf reader bytes ≡ good (startOf (s .plan))
+
+-- "or later": what is written at version one, all three readers load
+abbrev pub EveryReader : State → Type 0
+EveryReader s =
+    (room : ℕ) (bytes : List ℕ) → writeOf s 1 room ≡ good bytes
+    → (loadOf 1 bytes ≡ good (startOf (s .plan))) × ((loadOf 2 bytes ≡ good (startOf (s .plan))) × (loadOf 3 bytes ≡ good (startOf (s .plan))))

@@ -24,7 +24,9 @@ ghost use Rattle.records.specs.Held.{gatheredOf, numbersIn};
 ghost use Rattle.wpl.specs.Header.{markedOf, areaFits, headerOf};
 ghost use Rattle.wpl.specs.Load.{recordsOf, finishOf, loadOf, loadedOf, headFrom, enteredOf};
 ghost use Rattle.wpl.specs.Write.{carriedSince, writeOf, writtenOf, bufferOf};
-ghost use Rattle.wpl.specs.RoundTrip.{RoundTrip};
+ghost use Rattle.wpl.specs.RoundTrip.{RoundTrip, EveryReader};
+ghost use Rattle.wpl.specs.Starts.{Starts};
+ghost use Rattle.wpl.specs.Order.{All, loadOrder, writeOrder};
 ghost use Rattle.wpl.specs.Note.{wantedOf, leftOf, noteIn, noteOf, Within, partOf};
 
 // The newest version.
@@ -208,6 +210,7 @@ pub fn load_into(file: &[u8], reader: u32, numbers: &mut [i32]) -> Entered
     requires { ⌜ length (now numbers) ≡ planNumbers ⌝ }
     ensures { λ r. ⌜ r ≡ enteredOf (loadedOf (loadOf reader (now (file .entry)))) ⌝ }
     ensures { λ _. ⌜ now (numbers .exit) ≡ numbersOf (loadedOf (loadOf reader (now (file .entry))) .state .plan) ⌝ }
+    ensures { λ _. ⌜ Starts reader (now (file .entry)) ⌝ }
 {
     buffers::clear(numbers);
     let entered = read_into(file, reader, numbers);
@@ -231,6 +234,8 @@ fn block_of(numbers: &[i32], from: usize) -> [i32; plan::POINTS]
 // The state at the start of the plan that a file gives to a reader of a version, or the first refusal.
 pub fn load(file: &[u8], reader: u32) -> Loaded
     ensures { λ r. ⌜ r ≡ loadedOf (loadOf reader (now (file .entry))) ⌝ }
+    ensures { λ _. ⌜ Starts reader (now (file .entry)) ⌝ }
+    ensures { λ _. ⌜ All loadOrder ⌝ }
 {
     let mut numbers = [0i32; plan::NUMBERS];
     let entered = load_into(file, reader, &mut numbers);
@@ -322,6 +327,7 @@ pub fn write_from<'a>(
     ensures { λ r. ⌜ r ≡ writtenOf (writeOf (viewed head progress (now (norths .entry)) (now (easts .entry)) (now (downs .entry)) (now (courses .entry))) version (length (now (file .entry)))) ⌝ }
     ensures { λ _. ⌜ now (file .exit) ≡ bufferOf (writeOf (viewed head progress (now (norths .entry)) (now (easts .entry)) (now (downs .entry)) (now (courses .entry))) version (length (now (file .entry)))) (now (file .entry)) ⌝ }
     ensures { λ _. ⌜ RoundTrip (viewed head progress (now (norths .entry)) (now (easts .entry)) (now (downs .entry)) (now (courses .entry))) ⌝ }
+    ensures { λ _. ⌜ EveryReader (viewed head progress (now (norths .entry)) (now (easts .entry)) (now (downs .entry)) (now (courses .entry))) ⌝ }
 {
     let number = write_refusal(
         head,
@@ -353,6 +359,8 @@ pub fn write(state: State, version: u32, file: &mut [u8]) -> Written
     ensures { λ r. ⌜ r ≡ writtenOf (writeOf state version (length (now (file .entry)))) ⌝ }
     ensures { λ _. ⌜ now (file .exit) ≡ bufferOf (writeOf state version (length (now (file .entry)))) (now (file .entry)) ⌝ }
     ensures { λ _. ⌜ RoundTrip state ⌝ }
+    ensures { λ _. ⌜ EveryReader state ⌝ }
+    ensures { λ _. ⌜ All writeOrder ⌝ }
 {
     let head = state.plan.head;
     let progress = state.progress;

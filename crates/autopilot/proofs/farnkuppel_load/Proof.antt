@@ -74,7 +74,7 @@ returns-2 c =
     let e = d .before .before in
     let s = e .before .before .before .before in
     let l = load-fit _ _ (s .args .state .now) (s .args .answer .now) (sym (e .before .fits2 .ensures) ∙ not-false _ (e .if1 .left)) _ _ _ (loaded-filled _ _ _ refl) (omega (arith, long e .0))
-    (d .load-into .ensures .0) (d .load-into .ensures .1) (h .put-head .ensures .0)
+    (d .load-into .ensures .0) (d .load-into .ensures .1 .0) (h .put-head .ensures .0)
     (p .put-words .ensures ∙ ap (λ (n : ℕ). over (d .load-into .result .refusal ∷ n ∷ []) (s .args .answer .now)) (w .word .ensures)) in
     let word : d .load-into .result .head .serial < 4294967296 = w .before .struct-known .given .1 .1 .0 .0 .fits in
     let held = load-holds _ _ _ _ _ _ word (ap (λ (x : Entered). x .head .serial) (d .load-into .ensures .0)) (l .words) in

@@ -31,7 +31,7 @@ returns-2 : tie.Need-returns-2
 returns-2 c =
     let l = c .before .before .before in
     let e = l .before in
-    let k = loaded-refused _ _ _ (l .load .ensures) (c .if2 .taken) in
+    let k = loaded-refused _ _ _ (l .load .ensures .0) (c .if2 .taken) in
     let f = load-refused _ _ _ _ _ _ (sym (e .before .fits2 .ensures) ∙ not-false _ (e .if1 .left)) _ _ (k .0) in
     (ap (λ (s : State). record { refusal = l .load .result .refusal; place = l .load .result .place; state = s }) (k .1) ∙ f .flown, (f .answered, (f .commanded, (λ r o z. two-flights _ _ _ _ _ r o z, (demand, anchored)))))
 
@@ -51,7 +51,7 @@ returns-3 c =
     let l = m .before .before .before in
     let e = l .before in
     let h = sym (e .before .fits2 .ensures) ∙ not-false _ (e .if1 .left) in
-    let k = loaded-good _ _ _ (l .load .ensures) (m .if2 .left) in
+    let k = loaded-good _ _ _ (l .load .ensures .0) (m .if2 .left) in
     let f = flies _ _ _ _ _ _ h _ _ _ _ k (a .fly-all .ensures .0) (a .fly-all .ensures .1 .0) (a .fly-all .ensures .1 .1) in
     (f .flown, (f .answered, (f .commanded, (λ r o z. two-flights _ _ _ _ _ r o z, (demand, anchored)))))
 

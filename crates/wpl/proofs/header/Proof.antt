@@ -1,5 +1,6 @@
 -- `header` asks 1 to 5 in their order. Assumes nothing.
 use mathlib.Core.Path.{sym, ap, _∙_}
+use native.Mathlib.Omega.{arith}
 use borrow.Author.Tests.{not-true, not-false}
 use borrow.Author.Needs.{needs}
 use Rattle.refusals.specs.Outcome.{refusalOf}
@@ -10,14 +11,14 @@ use Rattle.wpl.proofs.header.Tie as tie
 
 returns : tie.Need-returns
 unfolding refusalOf
-returns c = ap refusalOf (too-short _ (c .if1 .taken))
+returns c = ap refusalOf (too-short _ (omega (arith, c .if1 .taken)))
 
 marked-requires : tie.Need-marked-requires
 marked-requires c κs = search needs
 
 returns-2 : tie.Need-returns-2
 unfolding refusalOf
-returns-2 c = ap refusalOf (unmarked _ (c .before .before .if1 .left) (sym (c .before .marked .ensures) ∙ not-true _ (c .if2 .taken)))
+returns-2 c = ap refusalOf (unmarked _ (omega (arith, c .before .before .if1 .left)) (sym (c .before .marked .ensures) ∙ not-true _ (c .if2 .taken)))
 
 u16-at-requires : tie.Need-u16-at-requires
 u16-at-requires c κs = search needs
@@ -27,7 +28,7 @@ unfolding refusalOf versionOf
 returns-3 c =
     let m = c .before .before in
     ap refusalOf
-    (unversioned _ (m .before .before .if1 .left) (sym (m .before .marked .ensures) ∙ not-false _ (m .if2 .left)) (sym (c .before .u16-at .ensures) ∙ c .if3 .taken))
+    (unversioned _ (omega (arith, m .before .before .if1 .left)) (sym (m .before .marked .ensures) ∙ not-false _ (m .if2 .left)) (omega (arith, c .before .u16-at .ensures, c .if3 .taken)))
 
 u32-at-requires : tie.Need-u32-at-requires
 u32-at-requires c κs = search needs
@@ -38,8 +39,8 @@ returns-4 c =
     let v = c .before .before in
     let m = v .before .before in
     ap refusalOf
-    (unnumbered _ (m .before .before .if1 .left) (sym (m .before .marked .ensures) ∙ not-false _ (m .if2 .left)) (λ e. v .if3 .left (v .before .u16-at .ensures ∙ e))
-    (sym (c .before .u32-at .ensures) ∙ c .if4 .taken))
+    (unnumbered _ (omega (arith, m .before .before .if1 .left)) (sym (m .before .marked .ensures) ∙ not-false _ (m .if2 .left)) (λ e. omega (arith, e, v .before .u16-at .ensures, v .if3 .left))
+    (omega (arith, c .before .u32-at .ensures, c .if4 .taken)))
 
 area-fits-requires : tie.Need-area-fits-requires
 area-fits-requires c κs = search needs
@@ -51,8 +52,8 @@ returns-5 c =
     let v = n .before .before in
     let m = v .before .before in
     ap refusalOf
-    (passes _ (m .before .before .if1 .left) (sym (m .before .marked .ensures) ∙ not-false _ (m .if2 .left)) (λ e. v .if3 .left (v .before .u16-at .ensures ∙ e))
-    (λ e. n .if4 .left (n .before .u32-at .ensures ∙ e)) (sym (c .before .area-fits .ensures) ∙ c .if5 .taken))
+    (passes _ (omega (arith, m .before .before .if1 .left)) (sym (m .before .marked .ensures) ∙ not-false _ (m .if2 .left)) (λ e. omega (arith, e, v .before .u16-at .ensures, v .if3 .left))
+    (λ e. omega (arith, e, n .before .u32-at .ensures, n .if4 .left)) (sym (c .before .area-fits .ensures) ∙ c .if5 .taken))
 
 returns-6 : tie.Need-returns-6
 unfolding refusalOf versionOf serialOf
@@ -61,8 +62,8 @@ returns-6 c =
     let v = n .before .before in
     let m = v .before .before in
     ap refusalOf
-    (misfit _ (m .before .before .if1 .left) (sym (m .before .marked .ensures) ∙ not-false _ (m .if2 .left)) (λ e. v .if3 .left (v .before .u16-at .ensures ∙ e))
-    (λ e. n .if4 .left (n .before .u32-at .ensures ∙ e)) (sym (c .before .area-fits .ensures) ∙ c .if5 .left))
+    (misfit _ (omega (arith, m .before .before .if1 .left)) (sym (m .before .marked .ensures) ∙ not-false _ (m .if2 .left)) (λ e. omega (arith, e, v .before .u16-at .ensures, v .if3 .left))
+    (λ e. omega (arith, e, n .before .u32-at .ensures, n .if4 .left)) (sym (c .before .area-fits .ensures) ∙ c .if5 .left))
 
 pub header-spec : {M : Type 1} → statement M
 header-spec =

@@ -2,6 +2,7 @@
 use mathlib.Core.Path.{refl}
 use Rattle.wpl.specs.Load.{loadedOf, loadOf}
 use Rattle.wpl.proofs.LoadLaws.{loaded-filled, loaded-whole}
+use Rattle.wpl.proofs.OrderLaws.{in-order}
 use borrow.Author.Needs.{needs}
 use Rattle.wpl.proofs.load.Statement.{statement}
 use Rattle.wpl.proofs.load.Tie as tie
@@ -41,9 +42,11 @@ returns c =
     let d = c .before .before .before in
     let e = d .before .before in
     let n = e .before .before in
-    let l = n .before .before .before .before in
-    loaded-whole _ (loaded-filled _ _ _ refl) (l .load-into .ensures .0) (l .load-into .ensures .1) (n .block-of .ensures) (e .block-of2 .ensures)
-    (d .block-of3 .ensures) (c .before .block-of4 .ensures)
+    let l = n .before .before .before .before in (
+      loaded-whole _ (loaded-filled _ _ _ refl) (l .load-into .ensures .0) (l .load-into .ensures .1 .0) (n .block-of .ensures) (e .block-of2 .ensures)
+          (d .block-of3 .ensures) (c .before .block-of4 .ensures),
+      (l .load-into .ensures .1 .1, in-order .0),
+    )
 
 pub load-spec : {M : Type 1} → statement M
 load-spec =

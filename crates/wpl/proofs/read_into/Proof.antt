@@ -1,6 +1,7 @@
 -- `read_into` asks the reader's version, the header, the records and the plan's rules in their order. Assumes nothing.
 use mathlib.Core.Path.{ap, _∙_}
 use Prim.Native.Nat.{ℕ}
+use native.Mathlib.Omega.{arith}
 use Rattle.wpl.specs.Header.{versionOf, serialOf}
 use Rattle.wpl.specs.Load.{finishOf, loadedOf, enteredOf}
 use Rattle.wpl.proofs.LoadLaws.{reader-low, reader-high, header-stops, records-stop, records-give, gather-stops, gather-gives, read-refused, read-finished}
@@ -14,13 +15,13 @@ refuse-requires : tie.Need-refuse-requires
 refuse-requires c κs = search needs
 
 returns : tie.Need-returns
-returns c = read-refused _ _ _ _ _ _ (reader-low _ _ (c .before .if1 .taken)) (c .refuse .ensures)
+returns c = read-refused _ _ _ _ _ _ (reader-low _ _ (omega (arith, c .before .if1 .taken))) (c .refuse .ensures)
 
 refuse-requires-2 : tie.Need-refuse-requires-2
 refuse-requires-2 c κs = search needs
 
 returns-2 : tie.Need-returns-2
-returns-2 c = read-refused _ _ _ _ _ _ (reader-high _ _ (c .before .if2 .taken)) (c .refuse2 .ensures)
+returns-2 c = read-refused _ _ _ _ _ _ (reader-high _ _ (omega (arith, c .before .if2 .taken))) (c .refuse2 .ensures)
 
 header-requires : tie.Need-header-requires
 header-requires c κs = search needs
@@ -32,7 +33,7 @@ returns-3 : tie.Need-returns-3
 returns-3 c =
     let h = c .before .before in
     read-refused _ _ _ _ _ _
-    (header-stops _ _ (h .before .before .if1 .left) (h .before .if2 .left) _ (h .header .ensures) (c .before .if3 .taken)) (c .refuse3 .ensures)
+    (header-stops _ _ (omega (arith, h .before .before .if1 .left)) (omega (arith, h .before .if2 .left)) _ (h .header .ensures) (c .before .if3 .taken)) (c .refuse3 .ensures)
 
 u16-at-requires : tie.Need-u16-at-requires
 u16-at-requires c κs = search needs
@@ -53,7 +54,7 @@ returns-4 c =
     let v = g .before .before in
     let h = v .before .before in
     read-refused _ _ _ _ _ _
-    (records-stop _ _ (h .before .before .if1 .left) (h .before .if2 .left) _ (h .header .ensures) (v .before .if3 .left) _ _
+    (records-stop _ _ (omega (arith, h .before .before .if1 .left)) (omega (arith, h .before .if2 .left)) _ (h .header .ensures) (v .before .if3 .left) _ _
     (gather-stops _ _ _ (v .u16-at .ensures) _ (g .gather .ensures .0) (c .before .if4 .taken)))
     (c .refuse4 .ensures)
 
@@ -81,7 +82,7 @@ returns-5 c =
     let x = gather-gives _ _ _ (v .u16-at .ensures) _ (g .gather .ensures .0) (u .before .if4 .left) in
     let n = g .gather .ensures .1 .0 (x .parts) (x .found) in
     read-finished _ _ _ _ _ (x .parts)
-    (records-give _ _ (h .before .before .if1 .left) (h .before .if2 .left) _ (h .header .ensures) (v .before .if3 .left) _ (x .are))
+    (records-give _ _ (omega (arith, h .before .before .if1 .left)) (omega (arith, h .before .if2 .left)) _ (h .header .ensures) (v .before .if3 .left) _ (x .are))
     (c .finish .ensures (x .parts) (x .held) n ∙ ap (λ (k : ℕ). enteredOf (loadedOf (finishOf k (x .parts)))) (u .u32-at .ensures)) n
 
 pub read-into-spec : {M : Type 1} → statement M

@@ -8,7 +8,7 @@ use Rattle.refusals.specs.Outcome.{Outcome}
 use Rattle.plan.proofs.PlannedLaws.{filled-long}
 use Rattle.wpl.specs.Write.{writtenOf, bufferOf}
 use Rattle.wpl.proofs.WriteLaws.{none-refused, write-refused, write-passes, count-most, writable}
-use Rattle.wpl.proofs.RoundTripLaws.{round-trip}
+use Rattle.wpl.proofs.RoundTripLaws.{round-trip, every-reader}
 use Rattle.wpl.proofs.write_from.Statement.{statement}
 use Rattle.wpl.proofs.write_from.Tie as tie
 
@@ -20,7 +20,7 @@ unfolding writtenOf bufferOf
 returns c =
     let s = c .before .before .before in
     let e = write-refused _ _ _ _ (c .before .write-refusal .ensures) (c .if1 .taken) in
-    (ap writtenOf (sym e), (ap (λ (o : Outcome (List ℕ)). bufferOf o (s .args .file .now)) (sym e), round-trip _ (s .pre)))
+    (ap writtenOf (sym e), (ap (λ (o : Outcome (List ℕ)). bufferOf o (s .args .file .now)) (sym e), (round-trip _ (s .pre), every-reader _ (round-trip _ (s .pre)))))
 
 cast-put-plan : tie.Need-cast-put-plan
 cast-put-plan c = let p = none-refused _ _ _ _ (c .before .write-refusal .ensures) (c .if1 .left) in omega (arith, p .newer)
@@ -49,7 +49,7 @@ returns-2 c =
     let p = none-refused _ _ _ _ (e .before .write-refusal .ensures) (e .if1 .left) in
     let w = write-passes _ _ _ p in (
       ap (λ (n : ℕ). record { refusal = 0; place = 0; length = n }) (c .file-length .ensures (a .version) (a .norths .now) (a .easts .now) (a .downs .now) (a .courses .now)) ∙ ap writtenOf (sym w),
-      (c .before .before .before .put-plan .ensures .0 ∙ ap (λ (o : Outcome (List ℕ)). bufferOf o (s .args .file .now)) (sym w), round-trip _ (s .pre)),
+      (c .before .before .before .put-plan .ensures .0 ∙ ap (λ (o : Outcome (List ℕ)). bufferOf o (s .args .file .now)) (sym w), (round-trip _ (s .pre), every-reader _ (round-trip _ (s .pre)))),
     )
 
 pub write-from-spec : {M : Type 1} → statement M

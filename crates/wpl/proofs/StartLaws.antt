@@ -1,0 +1,89 @@
+-- What a load gives can be flown, or is refused by whoever takes it. Assumes nothing.
+use mathlib.Core.Path.{_≡_, refl, sym, ap, subst, _∙_}
+use mathlib.Core.Bool.{true}
+use mathlib.Core.List.{List}
+use Prim.Native.Nat.{ℕ}
+use lib.ListN.{length}
+use Rattle.refusals.specs.Outcome.{Outcome, good, refused, isGood}
+use Rattle.refusals.specs.Sweep.{Done}
+use Rattle.refusals.proofs.OutcomeLaws.{then-means}
+use Rattle.plan.specs.Places.{pointsAt, coursesAt}
+use Rattle.plan.specs.Rules.{modeOf, rulesOn}
+use Rattle.plan.specs.Loaded.{planOf, Loads}
+use Rattle.plan.proofs.LoadedLaws.{loaded-stands}
+use Rattle.manager.specs.declared.State.{State}
+use Rattle.manager.specs.State.{emptyState, startOf, validOf}
+use Rattle.manager.specs.Flies.{Empty}
+use Rattle.manager.proofs.StartLaws.{started-valid, empty-invalid, empty-is}
+use Rattle.records.specs.Kinds.{Parts, noParts}
+use Rattle.records.specs.Gather.{headerLength, InRange}
+use Rattle.records.proofs.GatherLaws.{gather-ranged, none-ranged}
+use Rattle.wpl.specs.Header.{versionOf, serialOf}
+use Rattle.wpl.specs.Load.{recordsOf, partsOf, settleOf, rulesIn, finishOf, loadOf, loadedOf}
+use Rattle.wpl.specs.Write.{writeOf}
+use Rattle.wpl.specs.Starts.{Starts}
+use Rattle.wpl.proofs.LoadStepLaws.{load-steps}
+use Rattle.wpl.proofs.LoadLaws.{finish-makes}
+use Rattle.wpl.proofs.HeaderLaws.{serial-some}
+use Rattle.wpl.proofs.WriteLaws.{not-valid}
+use Rattle.wpl.proofs.LongLaws.{long-file}
+
+-- ---- the rules have passed what is made into a plan
+finish-passed : (serial : ℕ) (a : Parts) (s : State) → finishOf serial a ≡ good s → isGood (rulesIn a) ≡ true
+unfolding finishOf isGood
+finish-passed serial a s e =
+    let m = then-means (rulesIn a) (λ (_ : Done). good (startOf (planOf serial (a .radius) (a .points) (a .courses)))) s e in
+    ap isGood (m .1 .0)
+
+module _ (r : ℕ) (f : List ℕ) (s : State) (loads : loadOf r f ≡ good s) where
+  made : (a : Parts) × (InRange a × (finishOf (serialOf f) a ≡ good s))
+  unfolding partsOf settleOf
+  made =
+      let x = load-steps r f s loads in
+      let e : x .taken ≡ x .settled = let z = x .settles in cc in
+      (x .settled, (subst InRange e (gather-ranged r (versionOf f) (recordsOf f) headerLength noParts (x .taken) none-ranged (x .gathered)), x .finishes))
+
+  start-is : s ≡ startOf (planOf (serialOf f) (made .0 .radius) (made .0 .points) (made .0 .courses))
+  start-is = finish-makes (serialOf f) (made .0) s (made .1 .1)
+
+  listed : Loads (serialOf f) (made .0 .radius) (made .0 .points) (made .0 .courses)
+  unfolding rulesIn
+  listed =
+      let a = made .0 in
+      let h = made .1 .0 in
+      record {
+        numbered = serial-some f (load-steps r f s loads .header);
+        radius = h .radius;
+        ranged = h .points;
+        aimed = h .courses;
+        rules = finish-passed (serialOf f) a s (made .1 .1);
+      }
+
+  pub load-valid : validOf s ≡ true
+  load-valid =
+      ap validOf start-is ∙ started-valid _ (loaded-stands (serialOf f) (made .0 .radius) (made .0 .points) (made .0 .courses) listed)
+
+  load-serial : s .plan .head .serial ≡ serialOf f
+  load-serial = ap (λ (t : State). t .plan .head .serial) start-is
+
+-- ---- the state of a refused load is the empty one
+module _ (r : ℕ) (f : List ℕ) (number place : ℕ) (refuses : loadOf r f ≡ refused number place) where
+  none-left : loadedOf (loadOf r f) .state ≡ emptyState
+  unfolding loadedOf
+  none-left = ap (λ (o : Outcome State). loadedOf o .state) refuses
+
+  none-flown : Empty (loadedOf (loadOf r f) .state)
+  none-flown = subst Empty (sym none-left) empty-is
+
+  none-written : (version room : ℕ) → writeOf (loadedOf (loadOf r f) .state) version room ≡ refused 14 0
+  none-written version room = ap (λ (t : State). writeOf t version room) none-left ∙ not-valid emptyState version room empty-invalid
+
+pub starts : (reader : ℕ) (file : List ℕ) → Starts reader file
+starts reader file =
+    record {
+      valid = load-valid reader file;
+      serial = load-serial reader file;
+      empty = none-flown reader file;
+      unwritten = none-written reader file;
+      long = λ n h k. long-file file n h k reader;
+    }
