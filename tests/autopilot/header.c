@@ -1,5 +1,6 @@
 /* What the header says of the autopilot's functions, held against the archive: the interface's number, the places of words and numbers, sizes,
  * ranges, slices of length 0, words that hold no state. A line for each fact that does not hold; leaves with 1 where there is one. */
+#include "../plan.h"
 #include "farnkuppel.h"
 
 #include <inttypes.h>
@@ -9,6 +10,7 @@
 
 #define HOLD(fact) ((fact) ? (void)0 : broken(__LINE__, #fact))
 #define UNTOUCHED 77
+#define SERIAL 0x80000007
 
 static int failures;
 
@@ -20,50 +22,11 @@ static void broken(int line, const char *fact)
 
 /* ---- a plan file */
 
-static uint8_t file[FARNKUPPEL_FILE_BYTES + 1];
-static size_t length;
-
-static void put(uint32_t value, int bytes)
-{
-    for (int i = bytes - 1; i >= 0; i--)
-        file[length++] = (uint8_t)(value >> (8 * i));
-}
-
-static void begin(void)
-{
-    length = 0;
-    put(0x57504C, 3);
-    put(FARNKUPPEL_NEWEST, 2);
-    put(0x80000007, 4);
-    put(0, 2);
-}
-
-static void close_area(void)
-{
-    file[9] = (uint8_t)((length - 11) >> 8);
-    file[10] = (uint8_t)(length - 11);
-}
-
-static void point(int north, int east, int down)
-{
-    put(0x010C, 2);
-    put((uint32_t)north, 4);
-    put((uint32_t)east, 4);
-    put((uint32_t)down, 4);
-}
-
-static void pair(uint32_t kind, uint32_t value)
-{
-    put(kind, 1);
-    put(2, 1);
-    put(value, 2);
-}
-
 /* The corner of document 01's example, with a radius and courses or without. */
 static void corner(int mode)
 {
     const int parts[][3] = {{0, 0, -10}, {1000, 0, -20}, {1000, 1000, -30}};
-    begin();
+    begin(FARNKUPPEL_NEWEST, SERIAL);
     if (mode != FARNKUPPEL_MODE_LINES)
         pair(2, 200);
     for (uint32_t i = 0; i < 3; i++) {
@@ -93,7 +56,7 @@ static uint32_t load(struct flight *flight)
 
 static uint32_t fix(struct flight *flight, float north, float east, float down)
 {
-    uint32_t result = farnkuppel_fix(flight->state, FARNKUPPEL_STATE_WORDS, 0x80000007, north, east, down, flight->answer,
+    uint32_t result = farnkuppel_fix(flight->state, FARNKUPPEL_STATE_WORDS, SERIAL, north, east, down, flight->answer,
                                      FARNKUPPEL_ANSWER_WORDS, flight->command, FARNKUPPEL_COMMAND_NUMBERS);
     HOLD(result == flight->answer[FARNKUPPEL_ANSWER_REFUSAL]);
     HOLD(flight->answer[FARNKUPPEL_ANSWER_PLACE] == 0);
@@ -120,7 +83,7 @@ static void words_of_a_state(void)
     HOLD(load(&flight) == FARNKUPPEL_ACCEPTED);
     const int32_t wanted[][4] = {{0, 0, -10, 1}, {1000, 0, -20, 1025}, {1000, 1000, -30, 2049}, {0, 0, 0, 0}};
     const int32_t *s = flight.state;
-    HOLD((uint32_t)s[FARNKUPPEL_STATE_SERIAL] == 0x80000007);
+    HOLD((uint32_t)s[FARNKUPPEL_STATE_SERIAL] == SERIAL);
     HOLD(s[FARNKUPPEL_STATE_MODE] == FARNKUPPEL_MODE_DUBINS && s[FARNKUPPEL_STATE_RADIUS] == 200 && s[FARNKUPPEL_STATE_COUNT] == 3);
     HOLD(s[FARNKUPPEL_STATE_INDEX] == 2 && s[FARNKUPPEL_STATE_PHASE] == 1 && s[FARNKUPPEL_STATE_FINISHED] == 0);
     for (int i = 0; i < FARNKUPPEL_MOST_POINTS; i++) {
@@ -152,7 +115,7 @@ static void commands(void)
 static void turning_left(void)
 {
     struct flight flight;
-    begin();
+    begin(FARNKUPPEL_NEWEST, SERIAL);
     pair(2, 200);
     point(0, 0, 0);
     point(1000, 0, 0);
@@ -235,7 +198,7 @@ static void longest_files(void)
 {
     struct flight flight;
     uint32_t written;
-    begin();
+    begin(FARNKUPPEL_NEWEST, SERIAL);
     pair(2, 200);
     for (int i = 0; i < FARNKUPPEL_MOST_POINTS; i++) {
         point(1000 * i, 0, 0);
@@ -262,7 +225,7 @@ static void counts(void)
     struct flight flight;
     const int numbers[] = {FARNKUPPEL_FEWEST_POINTS - 1, FARNKUPPEL_FEWEST_POINTS, FARNKUPPEL_MOST_POINTS, FARNKUPPEL_MOST_POINTS + 1};
     for (int i = 0; i < 4; i++) {
-        begin();
+        begin(FARNKUPPEL_NEWEST, SERIAL);
         for (int at = 0; at < numbers[i]; at++)
             point(1000 * at, 0, 0);
         close_area();

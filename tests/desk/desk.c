@@ -2,57 +2,13 @@
  * each file and note: the name, the note's number, the result, the answer (- where it was not written) and the lent buffer, which held a dot at
  * every byte.
  * Every file is written out below; what is expected is read off document 01's tables and its sentence on notes. */
+#include "../plan.h"
 #include "farnkuppel.h"
 
 #include <inttypes.h>
 #include <stdio.h>
 #include <stdlib.h>
 #include <string.h>
-
-#define MOST 16384
-
-static uint8_t file[MOST];
-static size_t length;
-
-static void put(unsigned value, int bytes)
-{
-    for (int i = bytes - 1; i >= 0; i--)
-        file[length++] = (uint8_t)((uint64_t)value >> (8 * i));
-}
-
-/* A header; `close_area` puts the area length in. */
-static void begin(unsigned version, unsigned serial)
-{
-    length = 0;
-    memcpy(file, "WPL", 3);
-    length = 3;
-    put(version, 2);
-    put(serial, 4);
-    put(0, 2);
-}
-
-static void close_area(void)
-{
-    size_t area = length - 11;
-    file[9] = (uint8_t)(area >> 8);
-    file[10] = (uint8_t)area;
-}
-
-static void point(int north, int east, int down)
-{
-    put(1, 1);
-    put(12, 1);
-    put((unsigned)north, 4);
-    put((unsigned)east, 4);
-    put((unsigned)down, 4);
-}
-
-static void pair(unsigned kind, unsigned value)
-{
-    put(kind, 1);
-    put(2, 1);
-    put(value, 2);
-}
 
 static void note(const char *text)
 {
@@ -112,12 +68,12 @@ static void ask_note_of(const char *name, uint32_t number, size_t room, size_t w
 
 static void ask_note(const char *name, uint32_t number)
 {
-    ask_note_of(name, number, FARNKUPPEL_NOTE_BYTES, FARNKUPPEL_NOTE_WORDS);
+    ask_note_of(name, number, 32, 1);
 }
 
 static void ask_all(const char *name)
 {
-    for (uint32_t reader = 1; reader <= FARNKUPPEL_NEWEST; reader++)
+    for (uint32_t reader = 1; reader <= 3; reader++)
         ask(name, reader);
 }
 
@@ -320,7 +276,7 @@ static void later_notes(void)
 
 static void interface(void)
 {
-    printf("interface %s\n", farnkuppel_interface() == FARNKUPPEL_INTERFACE ? "as in the header" : "another");
+    printf("interface %" PRIu32 "\n", farnkuppel_interface());
 }
 
 int main(void)

@@ -1,18 +1,19 @@
 -- Document 01's example in an autopilot's words, computed from the definitions. Assumes nothing.
-use mathlib.Core.Path.{_≡_, refl}
+use mathlib.Core.Path.{_≡_, refl, ap}
 use mathlib.Core.Bool.{Bool, true}
 use mathlib.Core.List.{List, [], _∷_}
 use mathlib.Core.Logic.{inl, inr}
 use Prim.Native.Nat.{ℕ, zero, suc, _<_}
 use native.Mathlib.Omega.{arith}
 use lib.Dec.{ltb}
+use lib.IntN.{ℤ}
 use borrow.Author.Tests.{ltb-true}
 use lib.Ieee.{ofBits, div, ofInt}
 use Rattle.integers.specs.Choose.{choose}
 use Rattle.integers.specs.Root.{nextRoot, rootBy, rootOf}
 use Rattle.integers.specs.Round.{nearestOf}
 use Rattle.integers.specs.Wrap.{wrapOf}
-use Rattle.refusals.specs.Outcome.{check, andThen, isGood}
+use Rattle.refusals.specs.Outcome.{Outcome, good, refused, check, andThen, isGood}
 use Rattle.refusals.specs.Sweep.{sweep, both, every}
 use Rattle.refusals.proofs.Bools.{both-first, both-second}
 use Rattle.course.specs.Table.{series, scaledSine, sineOf}
@@ -32,6 +33,7 @@ use Rattle.plan.specs.Limits.{betweenOf, insideOf, inAreaOf, zeroOf, radiusFits
 use Rattle.plan.specs.Places.{padded}
 use Rattle.plan.specs.Rules.{modeOf, coursesFit, pairNumber, cornerNumber, legNumber, pairsOf, cornersOf, legsOf, geometryOn, rulesOn}
 use Rattle.plan.specs.Stands.{givenOf, pointFits, courseFits, valuesFit, placeFits, placesFit, standsOf}
+use Rattle.manager.specs.declared.State.{State}
 use Rattle.manager.specs.State.{lastIndex, onLastLeg, lastPhase, atEnd, indexFits, phaseFits, endFits, placedOf, validOf}
 use Rattle.manager.specs.Step.{guideOf, nextOf, refuseOf, movedOf, locatedStep, stepOf}
 use Rattle.records.specs.Numbers.{u16At, u32At, i32At, u16Bytes, u32Bytes, i32Bytes}
@@ -47,7 +49,7 @@ use Rattle.wpl.specs.Write.{carriedSince, writeOf, writtenOf, bufferOf}
 use Rattle.autopilot.specs.Calls.{pairFits, fixFits, loadResult, loadState, loadAnswer, writeFile, writeAnswer, fixWords, fixNumbers, fixNumber, fixNext, writeFrom}
 use Rattle.autopilot.specs.CallList.{replyTo, wordsAfter, replies, wordsInTheEnd}
 use Rattle.autopilot.specs.TwoBuffers.{AreBytes}
-use Rattle.autopilot.specs.Example.{example, ones, Example, Lengths}
+use Rattle.autopilot.specs.Example.{example, ones, Example, Separates, Lengths}
 
 abbrev bytesIn : List ℕ → Bool
 bytesIn [] = true
@@ -58,18 +60,34 @@ all-bytes [] h i = omega arith
 all-bytes (x ∷ xs) h zero = ltb-true x 256 (both-first _ _ h)
 all-bytes (x ∷ xs) h (suc i) = all-bytes xs (both-second _ _ h) i
 
-pub in-numbers : Example
-unfolding choose check andThen isGood sweep both every cross legOf minus levelLegOf dot3Of square3Of minorSize crossSize oppositeOf betweenOf insideOf inAreaOf padded modeOf coursesFit pairNumber cornerNumber pairsOf cornersOf legsOf geometryOn rulesOn u16At u32At i32At walkBy walk table rowIn rowOf optional knows between pointOf pointRule valueRule knownRule judge after gather wordOf flagOf modeWord stateWords markedOf versionOf serialOf areaOf areaFits headerOf recordsOf partsOf settleOf rulesIn finishOf bodyOf loadOf loadedOf loadState nextRoot rootBy rootOf nearestOf wrapOf series scaledSine sineOf quarter turned directionOf edgeNorth edgeEast reaches climb bearingIn bearingBy bearingOf levelOf plus dotOf squareOf lengthOf sidewaysOf halfPlane metOf decimetresOf inLimit allInLimit positionOf ofBits fromOf legGuide lineGuide legEnded lastLegGuide lineHeading zeroOf radiusFits givenOf pointFits courseFits valuesFit placeFits placesFit standsOf lastIndex onLastLeg lastPhase atEnd indexFits phaseFits endFits placedOf validOf guideOf nextOf refuseOf movedOf locatedStep stepOf u16Bytes u32Bytes i32Bytes flat pointBytes withHeader pointRecords radiusRecord listed planRecords fileOf kindOf senseOf answerWords commandNumbers modeAt wordAt holdsState takenOf carriedSince writeOf fixWords fixNumbers fixNumber fixNext writeFrom replyTo wordsAfter replies wordsInTheEnd legNumber lineCommand legHeading lineAngle signedOf placeMetres legMetres metresOf quotientOf div ofInt loadResult
-in-numbers =
-    record {
-      loaded = refl;
-      one = λ alike. alike 1 example ones ones (inl refl) (all-bytes example refl) refl refl refl refl .equal;
-      two = λ alike. alike 2 example ones ones (inr refl) (all-bytes example refl) refl refl refl refl .equal;
-      replied = refl;
-      ended = refl;
-      none = refl;
-      empty = refl;
-    }
+-- what tells states apart
+serialIn : Outcome State → ℕ
+serialIn (good s) = s .plan .head .serial
+serialIn (refused number place) = 0
+
+indexIn : Outcome State → ℕ
+indexIn (good s) = s .progress .index
+indexIn (refused number place) = 0
+
+pub in-numbers : Example × Separates
+unfolding choose check andThen isGood sweep both every cross legOf minus levelLegOf dot3Of square3Of minorSize crossSize oppositeOf betweenOf insideOf inAreaOf padded modeOf coursesFit pairNumber cornerNumber pairsOf cornersOf legsOf geometryOn rulesOn u16At u32At i32At walkBy walk table rowIn rowOf optional knows between pointOf pointRule valueRule knownRule judge after gather wordOf flagOf modeWord stateWords markedOf versionOf serialOf areaOf areaFits headerOf recordsOf partsOf settleOf rulesIn finishOf bodyOf loadOf loadedOf loadState nextRoot rootBy rootOf nearestOf wrapOf series scaledSine sineOf quarter turned directionOf edgeNorth edgeEast reaches climb bearingIn bearingBy bearingOf levelOf plus dotOf squareOf lengthOf sidewaysOf halfPlane metOf decimetresOf inLimit allInLimit positionOf ofBits fromOf legGuide lineGuide legEnded lastLegGuide lineHeading zeroOf radiusFits givenOf pointFits courseFits valuesFit placeFits placesFit standsOf lastIndex onLastLeg lastPhase atEnd indexFits phaseFits endFits placedOf validOf guideOf nextOf refuseOf movedOf locatedStep stepOf u16Bytes u32Bytes i32Bytes flat pointBytes withHeader pointRecords radiusRecord listed planRecords fileOf kindOf senseOf answerWords commandNumbers modeAt wordAt holdsState takenOf carriedSince writeOf fixWords fixNumbers fixNumber fixNext writeFrom replyTo wordsAfter replies wordsInTheEnd legNumber lineCommand legHeading lineAngle signedOf placeMetres legMetres metresOf quotientOf div ofInt loadResult serialIn indexIn
+in-numbers = (
+  record {
+    loaded = refl;
+    one = λ alike. alike 1 example ones ones (inl refl) (all-bytes example refl) refl refl refl refl .equal;
+    two = λ alike. alike 2 example ones ones (inr refl) (all-bytes example refl) refl refl refl refl .equal;
+    replied = refl;
+    ended = refl;
+    none = refl;
+    empty = refl;
+  },
+  record {
+    unloaded = λ h. let e : _≡_ {A = ℕ} 0 7 = ap serialIn (h .loaded refl (loadedOf (loadOf 3 example) .state) refl .taken) in absurd (omega (arith, e));
+    uncleared = λ h. let e : _≡_ {A = ℕ} 1 0 = ap serialIn (h .empty refl 3 0 refl .1 .taken) in absurd (omega (arith, e));
+    unmoved = λ h. let e : _≡_ {A = ℕ} 2 3 = ap indexIn (h .next refl (loadedOf (loadOf 3 example) .state) refl .taken) in absurd (omega (arith, e));
+    moved = λ h. let e : _≡_ {A = ℕ} 3 2 = ap (λ (ws : List ℤ). indexIn (takenOf ws)) (h .untouched (λ z. omega (arith, z))) in absurd (omega (arith, e));
+  },
+)
 
 pub lengths : Lengths
 unfolding choose both wordOf loadedOf writtenOf bufferOf pairFits fixFits loadResult loadState loadAnswer writeFile writeAnswer

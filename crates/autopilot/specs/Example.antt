@@ -13,6 +13,7 @@ use Rattle.units.specs.declared.Fix.{Fix}
 use Rattle.wpl.specs.declared.Loaded.{Loaded}
 use Rattle.wpl.specs.Load.{loadedOf}
 use Rattle.autopilot.specs.Calls.{loadFits, fixFits, writeFits, loadResult, loadState, loadAnswer, writeFile, writeAnswer}
+use Rattle.autopilot.specs.Held.{LoadHolds, FixHolds}
 use Rattle.autopilot.specs.CallList.{Call, fix, write, Reply, fixed, written, replies, wordsInTheEnd}
 use Rattle.autopilot.specs.TwoBuffers.{loadedBy, AlikeBuffers}
 
@@ -42,11 +43,15 @@ float bits = ofBits binary32 bits
 abbrev pub place : ℕ → ℕ → ℕ → Fix
 place n e d = record { north = float n; east = float e; down = float d }
 
--- at point 2, (100, 0, −100) in metres; by another serial; a write at version 1, with room for 53 bytes and for 52; at point 3, (100, 200, −100)
+-- at point 2, (100, 0, −100) in metres
+abbrev pub there : Fix
+there = place 0x42c8_0000 0 0xc2c8_0000
+
+-- there; there by another serial; a write at version 1, with room for 53 bytes and for 52; at point 3, (100, 200, −100)
 abbrev pub calls : List Call
 calls =
-    fix 7 (place 0x42c8_0000 0 0xc2c8_0000)
-    ∷ fix 8 (place 0x42c8_0000 0 0xc2c8_0000)
+    fix 7 there
+    ∷ fix 8 there
     ∷ write 1 53
     ∷ write 1 52
     ∷ fix 7 (place 0x42c8_0000 0x4348_0000 0xc2c8_0000)
@@ -91,6 +96,14 @@ pub record Example : Type 0 where
   pub ended : wordsInTheEnd (wordsAt (pos 2) (pos 0)) calls ≡ wordsAt (pos 3) (pos 1)
   pub none : replies (replicate 263 (negsuc 0)) asked ≡ refusing 4294967295
   pub empty : replies (states 263) asked ≡ refusing 0
+
+-- what is no load and no fix: a load that leaves other words, a refused one that leaves them as they were, a fix at the point that is flown to which
+-- does not move on, and a refused one that does
+pub record Separates : Type 0 where
+  pub unloaded : LoadHolds true 3 example ones (states 263) → ⊥
+  pub uncleared : LoadHolds true 4 example ones ones → ⊥
+  pub unmoved : FixHolds true 7 there (wordsAt (pos 2) (pos 0)) (wordsAt (pos 2) (pos 0)) 0 → ⊥
+  pub moved : FixHolds true 8 there (wordsAt (pos 2) (pos 0)) (wordsAt (pos 3) (pos 0)) 15 → ⊥
 
 -- which slices are long enough, and what a refusal and a success leave in longer ones
 pub record Lengths : Type 0 where

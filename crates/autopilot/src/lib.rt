@@ -18,7 +18,7 @@ ghost use Rattle.wpl.specs.Write.{writeOf, writtenOf, bufferOf};
 ghost use Rattle.autopilot.specs.Held.{Untouched, LoadHolds, FixHolds};
 ghost use Rattle.autopilot.specs.CallList.{CallsRun};
 ghost use Rattle.autopilot.specs.TwoBuffers.{AlikeBuffers, BuffersFly};
-ghost use Rattle.autopilot.specs.Example.{Example, Lengths};
+ghost use Rattle.autopilot.specs.Example.{Example, Separates, Lengths};
 ghost use Rattle.autopilot.specs.Calls.{pairFits, loadFits, loadResult, loadState, loadAnswer, fixFits, refusedWords, fixResult, fixState, fixAnswer, fixCommand, writeFits, writeFrom, writeResult, writeFile, writeAnswer};
 
 // The words of the answers to a load and to a write.
@@ -124,7 +124,7 @@ pub extern "C" fn farnkuppel_fix(
     ensures { λ _. ⌜ now (answer .exit) ≡ fixAnswer (fixFits (now (state .entry)) (now (answer .entry)) (now (command .entry))) (now (state .entry)) serial (record { north = north; east = east; down = down }) (now (answer .entry)) ⌝ }
     ensures { λ _. ⌜ now (command .exit) ≡ fixCommand (fixFits (now (state .entry)) (now (answer .entry)) (now (command .entry))) (now (state .entry)) serial (record { north = north; east = east; down = down }) (now (command .entry)) ⌝ }
     ensures { λ r. ⌜ FixHolds (fixFits (now (state .entry)) (now (answer .entry)) (now (command .entry))) serial (record { north = north; east = east; down = down }) (now (state .entry)) (now (state .exit)) r ⌝ }
-    ensures { λ _. ⌜ CallsRun × (Example × Lengths) ⌝ }
+    ensures { λ _. ⌜ CallsRun × ((Example × Separates) × Lengths) ⌝ }
 {
     if !fits(state.len(), answer.len(), c_answer::ANSWER) {
         return refusals::MISFIT as u32;
