@@ -1,3 +1,4 @@
+pub mod Anchors
 pub mod FillLaws
 pub mod SpliceLaws
 pub mod CopyLaws

@@ -3,6 +3,7 @@
 ghost use mathlib.Core.Path.{_≡_};
 ghost use Prim.Native.Nat.{_≤_};
 ghost use lib.ListN.{length};
+ghost use Rattle.buffers.specs.Facts.{BufferFacts};
 ghost use Rattle.buffers.specs.Splice.{over, zeroed};
 
 // Zeros everywhere.
@@ -19,6 +20,7 @@ pub fn clear(numbers: &mut [i32])
 pub fn put_bytes(bytes: &[u8], part: &mut [u8])
     requires { ⌜ length (now bytes) ≤ length (now part) ⌝ }
     ensures { λ _. ⌜ now (part .exit) ≡ over (now (bytes .entry)) (now (part .entry)) ⌝ }
+    ensures { λ _. ⌜ BufferFacts ⌝ }
 {
     let mut i: usize = 0;
     while i < bytes.len() {

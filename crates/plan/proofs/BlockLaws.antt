@@ -73,6 +73,3 @@ module _ (serial R : ℕ) (ps : List Point) (cs : List ℕ) where
 
   pub loaded-length : length (numbersOf (planOf serial R ps cs)) ≡ planNumbers
   loaded-length = ap length (numbers-joined (planOf serial R ps cs)) ∙ joined-length (blocksOf (planOf serial R ps cs)) loaded-blocks
-
-  pub loaded-block : (k : ℕ) → k < 4 → block k (numbersOf (planOf serial R ps cs)) ≡ getD (blocksOf (planOf serial R ps cs)) k []
-  loaded-block k h = ap (block k) (numbers-joined (planOf serial R ps cs)) ∙ block-joined k (blocksOf (planOf serial R ps cs)) loaded-blocks h

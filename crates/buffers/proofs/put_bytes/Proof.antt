@@ -1,9 +1,11 @@
 -- `put_bytes` copies bytes to the front of a part. The loop's invariant: as many as were reached are copied, and the rest is what it was.
 -- Assumes nothing.
-use mathlib.Core.Path.{refl}
-use Prim.Native.Nat.{_-_}
-use lib.ListN.{length}
+use mathlib.Core.Path.{ap}
+use Prim.Native.Nat.{ℕ, _-_}
+use native.Mathlib.Omega.{arith}
+use lib.ListN.{length, getD}
 use borrow.Author.Needs.{needs}
+use Rattle.buffers.proofs.Anchors.{buffer-facts}
 use Rattle.buffers.proofs.CopyLaws.{Copying, starts, goes-on, ends}
 use Rattle.buffers.proofs.put_bytes.Statement.{statement}
 use Rattle.buffers.proofs.put_bytes.Tie as tie
@@ -33,13 +35,13 @@ loop-again : tie.Need-loop-again Inv-loop μ-loop
 loop-again c =
     let t = c .before in
     let l = t .before in
-    goes-on _ _ _ (l .loop .inv) (t .loop-test .taken) (l .before .pre) refl
+    goes-on _ _ 0 (l .loop .inv) (t .loop-test .taken) (l .before .pre) (ap (λ (k : ℕ). getD (l .before .args .bytes .now) k 0) (omega arith))
 
 same-length : tie.Need-same-length Inv-loop μ-loop
 same-length c = c .before .loop .inv .kept
 
 returns : tie.Need-returns Inv-loop μ-loop
-returns c = ends _ _ (c .before .loop .inv) (c .loop-test .left)
+returns c = (ends _ _ (c .before .loop .inv) (c .loop-test .left), buffer-facts)
 
 pub put-bytes-spec : {M : Type 1} → statement M
 put-bytes-spec = tie.close (tie.spec Inv-loop μ-loop loop-holds shared-slice-read-part slice-write-part add-i loop-less loop-again same-length returns)

@@ -2,6 +2,7 @@
 -- Assumes nothing.
 use mathlib.Core.Path.{refl}
 use Prim.Native.Nat.{_-_}
+use native.Mathlib.Omega.{arith}
 use lib.ListN.{length}
 use borrow.Author.Needs.{needs}
 use Rattle.buffers.proofs.CopyLaws.{Copying, starts, goes-on, ends}
@@ -39,13 +40,13 @@ loop-again : tie.Need-loop-again Inv-loop μ-loop
 loop-again c =
     let t = c .before in
     let l = t .before in
-    goes-on _ _ _ (l .loop .inv) (t .loop-test .taken) (l .before .pre) refl
+    goes-on _ _ _ (l .loop .inv) (omega (arith, t .loop-test .taken)) (l .before .pre) refl
 
 same-length : tie.Need-same-length Inv-loop μ-loop
 same-length c = c .before .loop .inv .kept
 
 returns : tie.Need-returns Inv-loop μ-loop
-returns c = ends _ _ (c .before .loop .inv) (c .loop-test .left)
+returns c = ends _ _ (c .before .loop .inv) (omega (arith, c .loop-test .left))
 
 pub put-words-spec : {M : Type 1} → statement M
 put-words-spec = tie.close (tie.spec Inv-loop μ-loop loop-holds mul-part shared-slice-read-part mul-part-2 slice-write-part add-i loop-less loop-again same-length returns)

@@ -56,7 +56,7 @@ returns-2 c =
     let e = n .before in
     let s = e .before .before .before .before .before in
     let f = sym (e .before .fits2 .ensures) ∙ not-false _ (e .if1 .left) in
-    let l = show-fit _ _ _ _ f _ _ _ (n .note .ensures) (p .put-bytes .ensures)
+    let l = show-fit _ _ _ _ f _ _ _ (n .note .ensures) (p .put-bytes .ensures .0)
     (sets-eq (length (n .note .result .now) ∷ []) (s .args .answer .now) 0 (fits-means _ _ f .1)) in
     (l .result, (l .shown, (l .answered, (note-short _ _, in-numbers))))
 
