@@ -1,9 +1,9 @@
 -- Laws of D(k), for every k: its neighbour, its quarter turns, document 01's facts of the table. Assumes nothing.
 use mathlib.Core.Path.{_≡_, refl, sym, ap, _∙_, subst}
-use Prim.Native.Nat.{ℕ, zero, suc, _+_, _*_, _-_, _/_, _%_, _≤_, _<_}
+use Prim.Native.Nat.{ℕ, zero, suc, _+_, _*_, _-_, _/_, _%_, _<_}
 use native.Mathlib.Omega.{arith}
 use native.Mathlib.Decide.{decLt}
-use lib.IntN.{ℤ, pos, negℤ, negℤ-negℤ, _-ℤ_}
+use lib.IntN.{ℤ, pos, negℤ, negℤ-negℤ}
 use lib.Signed.{_≤ℤ_}
 use Rattle.integers.proofs.BoundLaws.{within-neg}
 use Rattle.integers.proofs.Ring.{v, lit, add, sub, neg, mul, same, le}

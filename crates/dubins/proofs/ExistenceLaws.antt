@@ -14,11 +14,11 @@ use Rattle.plane.proofs.LevelLaws.{square-sum, square-zero}
 use Rattle.dubins.specs.Cases.{sameSide, tangentExists}
 
 module _ (case R : ℕ) (v : Vector) where
-  outer-test : sameSide case ≡ true → tangentExists case R v ≡ ltb 0 (squareOf v)
+  pub outer-test : sameSide case ≡ true → tangentExists case R v ≡ ltb 0 (squareOf v)
   unfolding tangentExists
   outer-test h = choose-true (sameSide case) (ltb 0 (squareOf v)) (leb (4 * R * R) (squareOf v)) h
 
-  inner-test : sameSide case ≡ false → tangentExists case R v ≡ leb (4 * R * R) (squareOf v)
+  pub inner-test : sameSide case ≡ false → tangentExists case R v ≡ leb (4 * R * R) (squareOf v)
   unfolding tangentExists
   inner-test h = choose-false (sameSide case) (ltb 0 (squareOf v)) (leb (4 * R * R) (squareOf v)) h
 

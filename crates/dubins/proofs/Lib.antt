@@ -1,3 +1,4 @@
+mod HandLegLaws
 pub mod PathBounds
 pub mod ExistenceLaws
 pub mod ShortestLaws

@@ -149,7 +149,7 @@ module _ (ends : Ends) where
           most = omega (arith, n);
           own = ap (casePath ends) n ∙ k;
           shortest = λ case q a b e. by-dec case q a b e (decLt case (suc m));
-          earliest = λ case q a b e. h case q a (omega (arith, n)) e;
+          earliest = λ case q a b e. omega (arith, h case q a (omega (arith, n)) e);
         }
       where
         by-dec : (case : ℕ) (q : Path) → 1 ≤ case → case ≤ suc m → casePath ends case ≡ Shortest q → Dec (case < suc m) → p .length ≤ q .length

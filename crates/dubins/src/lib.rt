@@ -13,6 +13,7 @@ ghost use Rattle.dubins.specs.declared.Found.the-variants.{Shortest};
 ghost use Rattle.dubins.specs.Limits.{IsEnds, IsCircles, IsPath, IsFound};
 ghost use Rattle.dubins.specs.Cases.{startsRight, endsRight, sameSide, centreOf, circlesOf, tangentExists, straightOf, innerTangent, courseOf, turnOf, touchOf, pathOf, caseExists};
 ghost use Rattle.dubins.specs.Choice.{casePath, shorterOf, shortestOf, hasPathOf, farApart, Chosen, Existence};
+ghost use Rattle.dubins.specs.HandLegs.{HandLegs};
 ghost use Rattle.dubins.specs.Ways.{AreCentres, IsWay, IsTried, pathAlong, foundBy};
 
 // The ends of a leg: its points, the courses to leave and to arrive on, the radius of the circles.
@@ -338,7 +339,7 @@ pub fn shortest_path(ends: Ends) -> Found
     requires { ⌜ IsEnds ends ⌝ }
     ensures { λ r. ⌜ r ≡ shortestOf ends ⌝ }
     ensures { λ r. ⌜ IsFound r ⌝ }
-    ensures { λ r. ⌜ Chosen ends r ⌝ }
+    ensures { λ r. ⌜ Chosen ends r × HandLegs ⌝ }
 {
     let start = ends.start;
     let end = ends.end;

@@ -1,2 +1,3 @@
 pub mod TangentLaws
 pub mod CornerLaws
+mod HandCornerLaws

@@ -1,19 +1,23 @@
 -- Of a turn up to 1,792, with (C, S) = D(τ): S ≥ 0, 16,384 + C ≥ 1,247, the tangent length is the floor that document 01 asks for, and of a
 -- radius up to 10,000 at most 50,280. By one test over the quarter in which C is negative. Assumes nothing.
-use mathlib.Core.Path.{_≡_, refl, sym, ap, _∙_, subst}
+use mathlib.Core.Path.{_≡_, refl, sym, ap, _∙_}
 use mathlib.Core.Bool.{Bool, _&&_}
-use Prim.Native.Nat.{ℕ, suc, _+_, _*_, _-_, _/_, _%_, _≤_, _<_}
-use native.Mathlib.Nat.{mul-le-mul-right, div-mul-le-self, div-lt-iff-lt-mul}
+use Prim.Native.Nat.{ℕ, _+_, _*_, _-_, _/_, _%_, _≤_, _<_}
+use native.Mathlib.Nat.{le-antisymm, mul-le-mul-right, div-mul-le-self, div-lt-iff-lt-mul}
 use native.Mathlib.Omega.{arith}
 use native.Mathlib.Decide.{decLt}
 use lib.Dec.{T, leb, leb→le}
-use lib.IntN.{ℤ, pos, negℤ, natAbs, _+ℤ_}
-use Rattle.integers.proofs.Ring.{lit, neg, add, same, le, lt}
+use lib.IntN.{ℤ, pos, natAbs, _+ℤ_}
+use Rattle.integers.proofs.Ring.{lit, neg, add, same, le, le-of, lt, lt-of}
 use Rattle.course.specs.Table.{series, scaledSine, sineOf}
-use Rattle.course.specs.Direction.{directionOf}
+use Rattle.course.specs.Direction.{quarter, turned, directionOf}
 use Rattle.course.proofs.TableLaws.{all, at, and-left, and-right, sine-most}
 use Rattle.course.proofs.DirectionLaws.{direction-here, turned-0, turned-1}
 use Rattle.fillets.specs.Corners.{tangentOf, IsTangent}
+
+pub steepest : tangentOf 10000 1792 ≡ 50280
+unfolding series scaledSine sineOf quarter turned directionOf tangentOf
+steepest = refl
 
 -- ---- the test, of j = τ − 1,024: 16,384 − S[j] is large enough, for the division and for the bound
 fits : ℕ → ℕ → Bool
@@ -91,6 +95,23 @@ is-tangent R τ h =
       low = rw (p .sine-is, p .base-is) (le (lit (R * s / b * b)) (lit (R * s)) (omega (arith, w .0)));
       high = rw (p .sine-is, p .base-is) (lt (lit (R * s)) (lit ((R * s / b + 1) * b)) (omega (arith, w .1)));
     }
+
+-- no other T has both sides
+sides : (b t T n : ℕ) → t * b ≤ n → n < (T + 1) * b → Dec (T < t) → t ≤ T
+sides b t T n h k (yes p) = absurd (omega (arith, mul-le-mul-right b p))
+sides b t T n h k (no p) = omega arith
+
+pub tangent-only : (R τ t : ℕ) → τ ≤ 1792 → IsTangent R τ t → t ≡ tangentOf R τ
+unfolding tangentOf
+tangent-only R τ t h i =
+    let s = split τ h .sine in
+    let b = split τ h .base in
+    let p = split τ h .parts in
+    let w = whole R s b (omega (arith, p .least)) in
+    let l = le-of (lit (t * b)) (lit (R * s)) (rw (p .sine-is, p .base-is) at (i .low)) in
+    let u = lt-of (lit (R * s)) (lit ((t + 1) * b)) (rw (p .sine-is, p .base-is) at (i .high)) in
+    le-antisymm (sides b t (R * s / b) (R * s) (omega (arith, l)) (w .1) (decLt (R * s / b) t)) (sides b (R * s / b) t (R * s) (w .0) (omega (arith, u)) (decLt t (R * s / b)))
+    ∙ sym (λ j. R * natAbs (p .sine-is j) / natAbs (p .base-is j))
 
 -- in the terms of the code: the magnitudes of S and of 16,384 + C
 pub record Magnitudes (C S : ℤ) : Type 0 where

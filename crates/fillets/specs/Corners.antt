@@ -1,13 +1,14 @@
 -- Document 01, "Fillets": the turn at a corner, its tangent length, and its arc. Assumes nothing.
-use mathlib.Core.Bool.{Bool}
+use mathlib.Core.Path.{_≡_}
+use mathlib.Core.Bool.{Bool, false}
 use Prim.Native.Nat.{ℕ, _+_, _-_, _*_, _/_, _≤_}
 use lib.Dec.{leb}
-use lib.IntN.{pos, natAbs, _+ℤ_, _-ℤ_, _*ℤ_}
+use lib.IntN.{pos, negsuc, natAbs, _+ℤ_, _-ℤ_, _*ℤ_}
 use lib.Signed.{leZ, _≤ℤ_, _<ℤ_}
 use Rattle.integers.specs.Choose.{choose}
 use Rattle.integers.specs.Wrap.{wrapOf}
 use Rattle.course.specs.declared.Vector.{Vector}
-use Rattle.course.specs.Vectors.{Near, cross}
+use Rattle.course.specs.Vectors.{Near, plain, cross}
 use Rattle.course.specs.Direction.{directionOf}
 use Rattle.course.specs.Bearing.{bearingOf}
 use Rattle.course.specs.Offset.{offsetOf}
@@ -30,7 +31,7 @@ turnOf before point after = turnBetween (levelLegOf before point) (levelLegOf po
 unfoldable pub tangentOf : ℕ → ℕ → ℕ
 tangentOf R τ = R * natAbs (directionOf τ .east) / natAbs (pos 16384 +ℤ directionOf τ .north)
 
--- the same without a quotient: what `tangent_length` promises of its answer T
+-- the same without a quotient: what `tangent_length` promises of its answer T, and of no other
 pub record IsTangent (R τ T : ℕ) : Type 0 where
   pub sine : pos 0 ≤ℤ directionOf τ .east
   pub base : pos 0 <ℤ (pos 16384 +ℤ directionOf τ .north)
@@ -57,6 +58,13 @@ unfoldable pub cornerOf : Point → Point → Point → ℕ → Corner
 cornerOf before point after R =
     roundedOf (levelOf point) (bearingOf (levelLegOf before point)) (bearingOf (levelLegOf point after))
     (rightOf (levelLegOf before point) (levelLegOf point after)) R (tangentOf R (turnOf before point after))
+
+-- worked out by hand: the steepest turn of the widest radius, and at (1000,0), from north to west, a corner of tangent length 100 and R 200
+pub record HandCorners : Type 0 where
+  pub steepest : tangentOf 10000 1792 ≡ 50280
+  pub corner :
+      roundedOf (plain 1000 0) 0 3072 false 200 100
+      ≡ record { tangent = 100; right = false; z1 = plain 900 0; z2 = record { north = pos 1000; east = negsuc 99 }; centre = record { north = pos 900; east = negsuc 199 } }
 
 -- how far a corner's parts go
 pub record IsCorner (c : Corner) : Type 0 where

@@ -2,10 +2,10 @@
 use course::Vector;
 use plane::Point;
 ghost use mathlib.Core.Path.{_≡_};
-ghost use Prim.Native.Nat.{_≤_, _<_};
+ghost use Prim.Native.Nat.{ℕ, _≤_, _<_};
 ghost use Rattle.course.specs.Vectors.{Near};
 ghost use Rattle.plane.specs.Area.{InArea};
-ghost use Rattle.fillets.specs.Corners.{lesserTurn, turnBetween, turnOf, tangentOf, IsTangent, rightOf, roundedOf, cornerOf, IsCorner};
+ghost use Rattle.fillets.specs.Corners.{lesserTurn, turnBetween, turnOf, tangentOf, IsTangent, rightOf, roundedOf, cornerOf, HandCorners, IsCorner};
 
 // The arc of a corner: its tangent length, whether it turns right (sense +1), where the line ends and begins again, and its centre.
 pub struct Corner {
@@ -50,7 +50,7 @@ pub fn tangent_length(radius: u64, turn: usize) -> u64
     requires { ⌜ (radius ≤ 10000) × (turn ≤ 1792) ⌝ }
     ensures { λ r. ⌜ r ≡ tangentOf radius turn ⌝ }
     ensures { λ r. ⌜ r ≤ 50280 ⌝ }
-    ensures { λ r. ⌜ IsTangent radius turn r ⌝ }
+    ensures { λ r. ⌜ IsTangent radius turn r × ((t : ℕ) → IsTangent radius turn t → t ≡ r) ⌝ }
 {
     let d = course::direction(turn);
     let sine = integers::magnitude(d.east);
@@ -70,6 +70,7 @@ fn turns_right(a: Vector, b: Vector) -> bool
 fn rounded(point: Vector, j: usize, k: usize, right: bool, radius: u64, t: u64) -> Corner
     requires { ⌜ Near 500000 point × ((j < 4096) × ((radius ≤ 10000) × (t ≤ 50280))) ⌝ }
     ensures { λ r. ⌜ (r ≡ roundedOf point j k right radius t) × IsCorner r ⌝ }
+    ensures { λ _. ⌜ HandCorners ⌝ }
 {
     let z1 = plane::between(course::offset(t, j), point);
     let z2 = plane::sum(point, course::offset(t, k));

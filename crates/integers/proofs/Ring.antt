@@ -2,7 +2,7 @@
 -- difference and a product, so that an equation or an order of ℤ becomes one of ℕ, which `omega` proves, products of variables included:
 --   cross-swap a b c d = same (sub (mul (v a) (v d)) (mul (v b) (v c))) (neg (sub (mul (v b) (v c)) (mul (v a) (v d)))) (omega arith)
 -- `omega` takes at most 64 monomials. Assumes nothing.
-use mathlib.Core.Path.{_≡_, refl, ap, subst}
+use mathlib.Core.Path.{_≡_, refl, ap}
 use mathlib.Core.Bool.{Bool, true, false, cond}
 use Prim.Native.Nat.{ℕ, zero, suc, _+_, _-_, _*_, _≤_, _<_}
 use native.Mathlib.Omega.{arith}

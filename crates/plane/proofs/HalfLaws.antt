@@ -1,12 +1,16 @@
--- The half-plane by the signs of x and y, and exactly opposite legs. Assumes nothing.
-use mathlib.Core.Path.{_≡_, _∙_}
+-- The half-plane as worked out by hand, and by the signs of x and y. Assumes nothing.
+use mathlib.Core.Path.{_≡_, refl}
 use mathlib.Core.Bool.{Bool, true, false}
 use Prim.Native.Nat.{ℕ}
 use lib.Dec.{leb}
 use lib.IntN.{ℤ, pos}
 use lib.Signed.{leZ}
 use Rattle.integers.specs.Choose.{choose}
-use Rattle.plane.specs.Half.{squareTimes, halfPlane}
+use Rattle.plane.specs.Half.{squareTimes, halfPlane, HandHalves}
+
+pub hand-halves : HandHalves
+unfolding halfPlane choose
+hand-halves = record { behind = refl; before = refl; beside = refl; short = refl }
 
 module _ (x y : ℤ) (A B : ℕ) where
   pub both-met : leZ (pos 0) x ≡ true → leZ (pos 0) y ≡ true → halfPlane x y A B ≡ true

@@ -1,8 +1,9 @@
 -- Document 01, "Lines": the half-plane, and exactly opposite legs. Assumes nothing.
+use mathlib.Core.Path.{_≡_}
 use mathlib.Core.Bool.{Bool, true, false, _&&_}
 use Prim.Native.Nat.{ℕ, _+_, _*_}
 use lib.Dec.{leb, eqb}
-use lib.IntN.{ℤ, pos, natAbs, _+ℤ_, _-ℤ_, _*ℤ_}
+use lib.IntN.{ℤ, pos, negsuc, natAbs, _+ℤ_, _-ℤ_, _*ℤ_}
 use lib.Signed.{leZ, ltZ}
 use Rattle.integers.specs.Choose.{choose}
 use Rattle.plane.specs.declared.Leg.{Leg}
@@ -26,6 +27,13 @@ halfPlane x y A B =
     choose (leZ (pos 0) x)
     (choose (leZ (pos 0) y) true (leb (squareTimes y A) (squareTimes x B)))
     (choose (leZ (pos 0) y) (leb (squareTimes x B) (squareTimes y A)) false)
+
+-- worked out by hand, with legs of 1,000 and 2,000: behind both, at the boundary on either side, and just short of it
+pub record HandHalves : Type 0 where
+  pub behind : halfPlane (negsuc 0) (negsuc 0) 1000000 4000000 ≡ false
+  pub before : halfPlane (negsuc 999) (pos 2000) 1000000 4000000 ≡ true
+  pub beside : halfPlane (pos 1000) (negsuc 1999) 1000000 4000000 ≡ true
+  pub short : halfPlane (pos 1000) (negsuc 2000) 1000000 4000000 ≡ false
 
 -- "With legs a, b before and after point i and d the position less the point": x = d·a, y = d·b, A = a·a, B = b·b
 unfoldable pub metOf : Leg → Leg → Leg → Bool

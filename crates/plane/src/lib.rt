@@ -7,7 +7,7 @@ ghost use Rattle.course.specs.Vectors.{Near, cross};
 ghost use Rattle.course.specs.Direction.{directionOf};
 ghost use Rattle.plane.specs.Area.{InArea, IsLeg, legOf, levelOf};
 ghost use Rattle.plane.specs.Level.{plus, minus, levelLegOf, dotOf, squareOf, lengthOf, sidewaysOf, arcOf};
-ghost use Rattle.plane.specs.Half.{dot3Of, square3Of, halfPlane, metOf, minorSize, crossSize, oppositeOf};
+ghost use Rattle.plane.specs.Half.{dot3Of, square3Of, halfPlane, HandHalves, metOf, minorSize, crossSize, oppositeOf};
 
 // A point of a plan or a position, in decimetres.
 pub struct Point {
@@ -157,6 +157,7 @@ fn squared3(a: Leg) -> u64
 fn half_plane(x: i64, y: i64, a: u64, b: u64) -> bool
     requires { ⌜ (Within 2040000000000 x × Within 2040000000000 y) × ((a ≤ 2040000000000) × (b ≤ 2040000000000)) ⌝ }
     ensures { λ r. ⌜ r ≡ halfPlane x y a b ⌝ }
+    ensures { λ _. ⌜ HandHalves ⌝ }
 {
     let u = integers::magnitude(x);
     let v = integers::magnitude(y);

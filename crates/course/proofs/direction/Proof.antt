@@ -2,9 +2,9 @@
 use mathlib.Core.Path.{_≡_, sym, ap, _∙_}
 use Prim.Native.Nat.{ℕ, _≤_, _-_, _/_, _%_}
 use native.Mathlib.Omega.{arith}
+use mir.Syntax.{w64}
 use borrow.Author.Needs.{needs}
-use Rattle.integers.proofs.BoundLaws.{bound}
-use Rattle.integers.proofs.ValueLaws.{value, is}
+use Rattle.integers.proofs.BoundLaws.{bound, cast-nat}
 use Rattle.course.specs.Table.{sineOf}
 use Rattle.course.specs.Vectors.{plain}
 use Rattle.course.specs.Direction.{turned, directionOf}
@@ -60,11 +60,8 @@ turned-by-requires c κs =
 
 returns : tie.Need-returns
 returns c =
-    let p = parts (c .before) in
-    let a = p .north-most in
-    let b = p .east-most in
-    let k = c .before .before .before .args .k in (
-      c .turned-by .ensures .0 ∙ ap (turned (k / 1024 % 4)) (vector (is (search value depth 20 fits 5000)) (is (search value depth 20 fits 5000))) ∙ whole p,
+    let p = parts (c .before) in (
+      c .turned-by .ensures .0 ∙ ap (turned _) (vector (cast-nat w64 (p .north-most) tt) (cast-nat w64 (p .east-most) tt)) ∙ whole p,
       c .turned-by .ensures .1,
     )
 

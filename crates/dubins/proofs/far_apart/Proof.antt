@@ -1,7 +1,10 @@
 -- `far_apart` decides whether the ends are three radii apart. Assumes nothing.
+use mathlib.Core.Path.{ap, _∙_}
 use native.Mathlib.Nat.{mul-le-mul}
 use native.Mathlib.Omega.{arith}
+use lib.Dec.{leb}
 use borrow.Author.Needs.{needs}
+use Rattle.plane.specs.Level.{minus, squareOf}
 use Rattle.dubins.specs.Choice.{farApart}
 use Rattle.dubins.proofs.far_apart.Statement.{statement}
 use Rattle.dubins.proofs.far_apart.Tie as tie
@@ -30,7 +33,7 @@ returns : tie.Need-returns
 unfolding farApart
 returns c =
     let d = c .before .before in
-    simp (c .squared .ensures .0, c .before .between .ensures .0, d .level2 .ensures .0, d .before .level .ensures .0)
+    ap (leb _) (c .squared .ensures .0 ∙ ap squareOf (c .before .between .ensures .0 ∙ (λ i. minus (d .level2 .ensures .0 i) (d .before .level .ensures .0 i))))
 
 pub far-apart-spec : {M : Type 1} → statement M
 far-apart-spec =

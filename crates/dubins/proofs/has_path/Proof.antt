@@ -1,6 +1,9 @@
 -- `has_path` decides whether any case exists, and each does exactly when document 01 says. Assumes nothing.
-use mathlib.Core.Path.{sym, _∙_}
+use mathlib.Core.Path.{_≡_, sym, _∙_}
+use mathlib.Core.Bool.{false}
 use borrow.Author.Needs.{needs}
+use Rattle.dubins.specs.declared.Ends.{Ends}
+use Rattle.dubins.specs.Cases.{caseExists}
 use Rattle.dubins.specs.Choice.{hasPathOf}
 use Rattle.dubins.proofs.FarLaws.{existence}
 use Rattle.dubins.proofs.has_path.Statement.{statement}
@@ -35,13 +38,17 @@ returns-3 c =
 case-exists-requires-4 : tie.Need-case-exists-requires-4
 case-exists-requires-4 c κs = search needs
 
-returns-4 : tie.Need-returns-4
+-- where no other does, the last decides
+last : (ends : Ends) → caseExists ends 1 ≡ false → caseExists ends 2 ≡ false → caseExists ends 3 ≡ false → caseExists ends 4 ≡ hasPathOf ends
 unfolding hasPathOf
+last ends a b c = simp (a, b, c)
+
+returns-4 : tie.Need-returns-4
 returns-4 c =
     let d = c .before in
     let b = d .before .before in
     let a = b .before .before in (
-      c .case-exists4 .ensures ∙ simp (sym (a .before .case-exists .ensures) ∙ a .if1 .left, sym (b .before .case-exists2 .ensures) ∙ b .if2 .left, sym (d .before .case-exists3 .ensures) ∙ d .if3 .left),
+      c .case-exists4 .ensures ∙ last _ (sym (a .before .case-exists .ensures) ∙ a .if1 .left) (sym (b .before .case-exists2 .ensures) ∙ b .if2 .left) (sym (d .before .case-exists3 .ensures) ∙ d .if3 .left),
       existence _,
     )
 

@@ -3,6 +3,7 @@ use mathlib.Core.Path.{_≡_, _∙_}
 use borrow.Author.Needs.{needs}
 use Rattle.dubins.specs.Choice.{shortestOf}
 use Rattle.dubins.specs.Ways.{foundBy}
+use Rattle.dubins.proofs.HandLegLaws.{hand-legs}
 use Rattle.dubins.proofs.ShortestLaws.{only-later, chosen}
 use Rattle.dubins.proofs.shortest_path.Statement.{statement}
 use Rattle.dubins.proofs.shortest_path.Tie as tie
@@ -36,7 +37,7 @@ returns c =
     let e : c .found-by .result ≡ shortestOf (s .args .ends) =
     c .found-by .ensures .0
     ∙ simp (d .better4 .ensures .0, d .before .better3 .ensures .0, d .before .before .better2 .ensures .0, d .before .before .before .better .ensures .0, only-later) in
-    (e, (c .found-by .ensures .1, chosen _ _ e))
+    (e, (c .found-by .ensures .1, (chosen _ _ e, hand-legs)))
 
 pub shortest-path-spec : {M : Type 1} → statement M
 shortest-path-spec =

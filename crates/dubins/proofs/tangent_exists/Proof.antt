@@ -1,10 +1,10 @@
 -- `tangent_exists` decides whether a case exists. Assumes nothing.
-use mathlib.Core.Path.{sym, _∙_}
+use mathlib.Core.Path.{sym, ap, _∙_}
 use native.Mathlib.Nat.{mul-le-mul}
 use native.Mathlib.Omega.{arith}
 use borrow.Author.Needs.{needs}
-use Rattle.integers.specs.Choose.{choose}
-use Rattle.dubins.specs.Cases.{tangentExists}
+use lib.Dec.{leb, ltb}
+use Rattle.dubins.proofs.ExistenceLaws.{outer-test, inner-test}
 use Rattle.dubins.proofs.tangent_exists.Statement.{statement}
 use Rattle.dubins.proofs.tangent_exists.Tie as tie
 
@@ -23,14 +23,16 @@ mul-result-2 c =
     omega (arith, mul-le-mul (s .pre .1) (s .pre .1))
 
 returns : tie.Need-returns
-unfolding tangentExists choose
 returns c =
-    simp (sym (c .before .same-side .ensures) ∙ c .if1 .taken, c .before .before .squared .ensures .0)
+    let s = c .before .before .before .args in
+    ap (ltb 0) (c .before .before .squared .ensures .0)
+    ∙ sym (outer-test (s .case) (s .radius) (s .v) (sym (c .before .same-side .ensures) ∙ c .if1 .taken))
 
 returns-2 : tie.Need-returns-2
-unfolding tangentExists choose
 returns-2 c =
-    simp (sym (c .before .same-side .ensures) ∙ c .if1 .left, c .before .before .squared .ensures .0)
+    let s = c .before .before .before .args in
+    ap (leb _) (c .before .before .squared .ensures .0)
+    ∙ sym (inner-test (s .case) (s .radius) (s .v) (sym (c .before .same-side .ensures) ∙ c .if1 .left))
 
 pub tangent-exists-spec : {M : Type 1} → statement M
 tangent-exists-spec =

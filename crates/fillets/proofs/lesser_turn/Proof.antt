@@ -24,7 +24,7 @@ returns c =
     let j = c .before .args .j in
     let k = c .before .args .k in
     let w = wrap-sub k j (omega arith) in
-    (simp (w, le-leb ((k + 4096 - j) % 4096) 2048 (c .if1 .taken)), c .if1 .taken)
+    (simp (w, le-leb ((k + 4096 - j) % 4096) 2048 (omega arith)), omega arith)
 
 returns-2 : tie.Need-returns-2
 unfolding lesserTurn choose
@@ -32,7 +32,7 @@ returns-2 c =
     let j = c .before .args .j in
     let k = c .before .args .k in
     let w = wrap-sub k j (omega arith) in
-    (simp (w, lt-leb ((k + 4096 - j) % 4096) 2048 (c .if1 .left)), omega arith)
+    (simp (w, lt-leb ((k + 4096 - j) % 4096) 2048 (omega arith)), omega arith)
 
 pub lesser-turn-spec : {M : Type 1} → statement M
 lesser-turn-spec = tie.close (tie.spec add-d sub-d sub-result returns returns-2)

@@ -57,9 +57,9 @@ returns c =
     let k = l .before in
     let j = k .before in
     let b = j .before in (
-      c .rounded .ensures .0
+      c .rounded .ensures .0 .0
           ∙ simp (c .before .level .ensures .0, t .turns-right .ensures, t .before .tangent-length .ensures .0, turn-is l, k .bearing2 .ensures .value, j .bearing .ensures .value, b .level-leg2 .ensures .0, b .before .level-leg .ensures .0),
-      c .rounded .ensures .1,
+      c .rounded .ensures .0 .1,
     )
 
 pub round-corner-spec : {M : Type 1} → statement M

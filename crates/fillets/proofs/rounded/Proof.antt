@@ -7,6 +7,7 @@ use Rattle.course.specs.Vectors.{Near}
 use Rattle.course.proofs.VectorLaws.{near-le}
 use Rattle.plane.specs.Level.{minus}
 use Rattle.fillets.specs.Corners.{roundedOf}
+use Rattle.fillets.proofs.HandCornerLaws.{hand-corners}
 use Rattle.fillets.proofs.CornerLaws.{z1-near, rounded-is, corner-carried}
 use Rattle.fillets.proofs.rounded.Statement.{statement}
 use Rattle.fillets.proofs.rounded.Tie as tie
@@ -43,10 +44,12 @@ unfolding roundedOf
 returns c =
     let d = c .before .before .before in
     let z = d .before .before in
-    let s = z .before .before in
-    corner-carried
-    (simp (c .sum2 .ensures .0, c .before .offset3 .ensures .0, c .before .before .sideways .ensures .0, d .sum .ensures .0, d .before .offset2 .ensures .0, z .between .ensures .0, z .before .offset .ensures .0))
-    (rounded-is (s .args .point) (s .args .j) (s .args .t) (s .pre .0) (s .pre .1 .1 .1) (s .args .k) (s .args .right) (s .args .radius) (s .pre .1 .1 .0))
+    let s = z .before .before in (
+      corner-carried
+          (simp (c .sum2 .ensures .0, c .before .offset3 .ensures .0, c .before .before .sideways .ensures .0, d .sum .ensures .0, d .before .offset2 .ensures .0, z .between .ensures .0, z .before .offset .ensures .0))
+          (rounded-is (s .args .point) (s .args .j) (s .args .t) (s .pre .0) (s .pre .1 .1 .1) (s .args .k) (s .args .right) (s .args .radius) (s .pre .1 .1 .0)),
+      hand-corners,
+    )
 
 pub rounded-spec : {M : Type 1} → statement M
 rounded-spec =

@@ -12,7 +12,7 @@ use Rattle.integers.proofs.ValueLaws.{value, via}
 use Rattle.course.specs.declared.Vector.{Vector}
 use Rattle.course.specs.Direction.{directionOf}
 use Rattle.fillets.specs.Corners.{tangentOf, IsTangent}
-use Rattle.fillets.proofs.TangentLaws.{magnitudes, is-tangent, tangent-le}
+use Rattle.fillets.proofs.TangentLaws.{magnitudes, is-tangent, tangent-only, tangent-le}
 use Rattle.fillets.proofs.tangent_length.Statement.{statement}
 use Rattle.fillets.proofs.tangent_length.Tie as tie
 
@@ -67,7 +67,7 @@ returns c =
     let τ = s .args .turn in
     let p = parts c in
     let e : R * c .before .before .before .magnitude .result / c .magnitude2 .result ≡ tangentOf R τ = λ i. R * p .sine-is i / p .base-is i in
-    (e, (omega (arith, e, tangent-le R τ (s .pre .0) (s .pre .1)), subst (IsTangent R τ) (sym e) (is-tangent R τ (s .pre .1))))
+    (e, (omega (arith, e, tangent-le R τ (s .pre .0) (s .pre .1)), (subst (IsTangent R τ) (sym e) (is-tangent R τ (s .pre .1)), λ t i. tangent-only R τ t (s .pre .1) i ∙ sym e)))
 
 pub tangent-length-spec : {M : Type 1} → statement M
 tangent-length-spec =

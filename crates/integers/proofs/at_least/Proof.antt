@@ -1,5 +1,6 @@
 -- `at_least` compares two numbers of three digits: the first digit that differs decides. Assumes nothing.
-use Rattle.integers.proofs.WideLaws.{order}
+use native.Mathlib.Omega.{arith}
+use Rattle.integers.proofs.WideLaws.{order, below, low-less}
 use Rattle.integers.proofs.at_least.Statement.{statement}
 use Rattle.integers.proofs.at_least.Tie as tie
 
@@ -16,7 +17,7 @@ returns-4 : tie.Need-returns-4
 returns-4 c = search order
 
 returns-5 : tie.Need-returns-5
-returns-5 c = search order
+returns-5 c = below _ _ (low-less _ _ (omega arith) (omega arith) (omega arith))
 
 returns-6 : tie.Need-returns-6
 returns-6 c = search order

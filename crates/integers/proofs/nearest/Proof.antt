@@ -1,8 +1,8 @@
 -- `nearest` gives x / 16,384 to the nearest whole number: the magnitude is rounded, and takes the sign. Assumes nothing.
-use mathlib.Core.Path.{_≡_, _∙_, ap, sym}
+use mathlib.Core.Path.{_≡_, _∙_, ap}
 use Prim.Native.Nat.{ℕ, _+_, _/_, _≤_}
 use native.Mathlib.Omega.{arith}
-use lib.IntN.{ℤ, pos, negℤ, natAbs}
+use lib.IntN.{pos, negℤ, natAbs}
 use lib.Signed.{natAbs-le}
 use mir.Facts.{toZ-ofZ}
 use borrow.Author.Needs.{needs}

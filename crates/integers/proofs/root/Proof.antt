@@ -1,5 +1,4 @@
 -- `root` gives the floor of the square root: the guess where it passes the test, and else what `root_by_halves` gives. Assumes nothing.
-use Prim.Native.Nat.{ℕ, _+_, _*_, _≤_, _<_}
 use native.Mathlib.Omega.{arith}
 use borrow.Author.Needs.{needs}
 use Rattle.integers.specs.Root.{IsRoot}

@@ -12,7 +12,7 @@ use borrow.Author.Needs.{needs}
 use Rattle.integers.specs.Wide.{base}
 use Rattle.integers.proofs.BoundLaws.{kept}
 use Rattle.plane.specs.Half.{halfPlane}
-use Rattle.plane.proofs.HalfLaws.{both-met, none-met, x-negative, y-negative}
+use Rattle.plane.proofs.HalfLaws.{hand-halves, both-met, none-met, x-negative, y-negative}
 use Rattle.plane.proofs.half_plane.Statement.{statement}
 use Rattle.plane.proofs.half_plane.Tie as tie
 
@@ -48,7 +48,7 @@ returns : tie.Need-returns
 returns c =
     let s = c .before .before .before .before .args in
     let p = parts (c .before .before) in
-    sym (both-met (s .x) (s .y) (s .a) (s .b) (tested (s .x) true (p .read-x) (c .before .if1 .taken)) (tested (s .y) true (p .read-y) (c .if2 .taken)))
+    (sym (both-met (s .x) (s .y) (s .a) (s .b) (tested (s .x) true (p .read-x) (c .before .if1 .taken)) (tested (s .y) true (p .read-y) (c .if2 .taken))), hand-halves)
 
 square-times-at-least-requires : tie.Need-square-times-at-least-requires
 square-times-at-least-requires c κs =
@@ -59,10 +59,12 @@ square-times-at-least-requires c κs =
 returns-2 : tie.Need-returns-2
 returns-2 c =
     let s = c .before .before .before .before .before .args in
-    let p = parts (c .before .before .before) in
-    c .square-times-at-least .ensures
-    ∙ (λ i. leb (p .size-y i * p .size-y i * s .a) (p .size-x i * p .size-x i * s .b))
-    ∙ sym (y-negative (s .x) (s .y) (s .a) (s .b) (tested (s .x) true (p .read-x) (c .before .before .if1 .taken)) (tested (s .y) false (p .read-y) (c .before .if2 .left)))
+    let p = parts (c .before .before .before) in (
+      c .square-times-at-least .ensures
+          ∙ (λ i. leb (p .size-y i * p .size-y i * s .a) (p .size-x i * p .size-x i * s .b))
+          ∙ sym (y-negative (s .x) (s .y) (s .a) (s .b) (tested (s .x) true (p .read-x) (c .before .before .if1 .taken)) (tested (s .y) false (p .read-y) (c .before .if2 .left))),
+      hand-halves,
+    )
 
 square-times-at-least-requires-2 : tie.Need-square-times-at-least-requires-2
 square-times-at-least-requires-2 c κs =
@@ -73,16 +75,18 @@ square-times-at-least-requires-2 c κs =
 returns-3 : tie.Need-returns-3
 returns-3 c =
     let s = c .before .before .before .before .before .args in
-    let p = parts (c .before .before .before) in
-    c .square-times-at-least2 .ensures
-    ∙ (λ i. leb (p .size-x i * p .size-x i * s .b) (p .size-y i * p .size-y i * s .a))
-    ∙ sym (x-negative (s .x) (s .y) (s .a) (s .b) (tested (s .x) false (p .read-x) (c .before .before .if1 .left)) (tested (s .y) true (p .read-y) (c .before .if3 .taken)))
+    let p = parts (c .before .before .before) in (
+      c .square-times-at-least2 .ensures
+          ∙ (λ i. leb (p .size-x i * p .size-x i * s .b) (p .size-y i * p .size-y i * s .a))
+          ∙ sym (x-negative (s .x) (s .y) (s .a) (s .b) (tested (s .x) false (p .read-x) (c .before .before .if1 .left)) (tested (s .y) true (p .read-y) (c .before .if3 .taken))),
+      hand-halves,
+    )
 
 returns-4 : tie.Need-returns-4
 returns-4 c =
     let s = c .before .before .before .before .args in
     let p = parts (c .before .before) in
-    sym (none-met (s .x) (s .y) (s .a) (s .b) (tested (s .x) false (p .read-x) (c .before .if1 .left)) (tested (s .y) false (p .read-y) (c .if3 .left)))
+    (sym (none-met (s .x) (s .y) (s .a) (s .b) (tested (s .x) false (p .read-x) (c .before .if1 .left)) (tested (s .y) false (p .read-y) (c .if3 .left))), hand-halves)
 
 pub half-plane-spec : {M : Type 1} → statement M
 half-plane-spec =

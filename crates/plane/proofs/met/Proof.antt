@@ -30,7 +30,7 @@ returns c =
     let y = c .before .before .before .dot32 in
     let a = c .before .before .squared3 in
     let b = c .before .squared32 in
-    c .half-plane .ensures
+    c .half-plane .ensures .0
     ∙ (λ i. halfPlane ((kept w64 (x .ensures .1) tt ∙ x .ensures .0) i) ((kept w64 (y .ensures .1) tt ∙ y .ensures .0) i) (a .ensures .0 i) (b .ensures .0 i))
 
 pub met-spec : {M : Type 1} → statement M
