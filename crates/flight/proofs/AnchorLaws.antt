@@ -113,6 +113,9 @@ last-plain s [] x a = a .0
 last-plain s (y ∷ ys) x a = last-plain (stepBy s y .state) ys x (a .1)
 
 -- ---- demand 3 by its own words, and without them
+is-later : (f : List ℕ) → 3 < versionOf f → headerOf f ≡ good done → fills (recordsOf f) ≡ true → IsLater f
+is-later f v h w = record { version = v; header = h; records = w }
+
 module _ (d : Demand) where
   by-number : (f : List ℕ) (s : State) → loadOf 3 f ≡ good s → (r : ℕ) → 1 ≤ r → r ≤ 2
       → ((holdsNewer r (recordsOf f) ≡ true) × (loadedOf (loadOf r f) .refusal ≡ 7)) ⊎ ((holdsNewer r (recordsOf f) ≡ false) × (loadOf r f ≡ good s))
@@ -137,7 +140,8 @@ module _ (d : Demand) where
         older = by-number;
         runs = λ f s t r low high h g fixes. runs-mean (d .alike f s t r (older-numbers r low high) h g fixes);
         second = two-fixes;
-        later = λ f v h w s. by-bytes f (record { version = v; header = h; records = w }) s;
+        later = λ f v h w s. by-bytes f (is-later f v h w) s;
+        left = λ f v h w. let is = d .cutting f (is-later f v h w) in (is .header, is .records);
         valid = λ r f s h. d .valid r f s h;
         flies = λ r f s h before x e p at. last-answered s (serialOf f) before x (d .flies r f s h (before ++ (x ∷ []))) e p at;
         plain = λ s before x. last-plain s before x (d .plain s (before ++ (x ∷ [])));

@@ -35,6 +35,9 @@ pub record Outright : Type 0 where
   pub second : (s : State) (x y : Named) → run s (x ∷ y ∷ []) ≡ stepBy s x ∷ stepBy (stepBy s x .state) y ∷ []
   pub later : (f : List ℕ) → 3 < versionOf f → headerOf f ≡ good done → fills (recordsOf f) ≡ true → (s : State)
       → (loadOf 3 f ≡ good s) ↔ (loadOf 3 (withHeader 3 (serialOf f) (flat (sift (recordsOf f)))) ≡ good s)
+  pub left : (f : List ℕ) → 3 < versionOf f → headerOf f ≡ good done → fills (recordsOf f) ≡ true
+      → (headerOf (withHeader 3 (serialOf f) (flat (sift (recordsOf f)))) ≡ good done)
+      × (recordsOf (withHeader 3 (serialOf f) (flat (sift (recordsOf f)))) ≡ sift (recordsOf f))
   -- the answer to a fix after any others
   pub valid : (r : ℕ) (f : List ℕ) (s : State) → loadOf r f ≡ good s → validOf s ≡ true
   pub flies : (r : ℕ) (f : List ℕ) (s : State) → loadOf r f ≡ good s → (before : List Named) (x : Named) → x .serial ≡ serialOf f → (p : Point) → positionOf (x .fix) ≡ At p

@@ -1,7 +1,7 @@
 -- Demand 3, sentence by sentence, over the definitions that the contracts of `wpl::load` and `State::step` cite. Assumes nothing.
 -- Commands are equal bit for bit: an f32's bits are a function of its value in the logic, but for a NaN, which is one value there and many
--- patterns on the machine, and but for the two zeros; and no number of a command is a NaN or −0.0 (the field `plain`). So `≡` of two commands
--- says that their bits are equal.
+-- patterns on the machine; and no number of a command is a NaN (the field `plain`, which shuts out infinities and −0.0 too). So `≡` of two
+-- commands says that their bits are equal.
 use mathlib.Core.Path.{_≡_}
 use mathlib.Core.Bool.{true, false}
 use mathlib.Core.List.{List}

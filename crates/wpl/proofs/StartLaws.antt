@@ -1,14 +1,11 @@
 -- What a load gives can be flown, or is refused by whoever takes it. Assumes nothing.
-use mathlib.Core.Path.{_≡_, refl, sym, ap, subst, _∙_}
+use mathlib.Core.Path.{_≡_, sym, ap, subst, _∙_}
 use mathlib.Core.Bool.{true}
 use mathlib.Core.List.{List}
 use Prim.Native.Nat.{ℕ}
-use lib.ListN.{length}
 use Rattle.refusals.specs.Outcome.{Outcome, good, refused, isGood}
 use Rattle.refusals.specs.Sweep.{Done}
 use Rattle.refusals.proofs.OutcomeLaws.{then-means}
-use Rattle.plan.specs.Places.{pointsAt, coursesAt}
-use Rattle.plan.specs.Rules.{modeOf, rulesOn}
 use Rattle.plan.specs.Loaded.{planOf, Loads}
 use Rattle.plan.proofs.LoadedLaws.{loaded-stands}
 use Rattle.manager.specs.declared.State.{State}

@@ -4,7 +4,6 @@ use borrow.Author.Tests.{not-true, not-false}
 use borrow.Author.Needs.{needs}
 use Rattle.manager.specs.declared.State.{State}
 use Rattle.wpl.proofs.LoadLaws.{loaded-good, loaded-refused}
-use Rattle.flight.specs.declared.Flown.{Flown}
 use Rattle.flight.proofs.FlightLaws.{flies-not, load-refused, flies}
 use Rattle.flight.proofs.DemandLaws.{demand}
 use Rattle.flight.proofs.TwoFlightsLaws.{two-flights}

@@ -1,6 +1,5 @@
 -- `load` puts the state together from the blocks that were filled. Assumes nothing.
 use mathlib.Core.Path.{refl}
-use Rattle.wpl.specs.Load.{loadedOf, loadOf}
 use Rattle.wpl.proofs.LoadLaws.{loaded-filled, loaded-whole}
 use Rattle.wpl.proofs.OrderLaws.{in-order}
 use borrow.Author.Needs.{needs}
