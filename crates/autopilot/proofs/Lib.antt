@@ -2,4 +2,4 @@ pub mod CallLaws
 pub mod HeldLaws
 pub mod FixLaws
 pub mod TwoBuffersLaws
-pub mod ExampleLaws
+pub mod Anchors

@@ -1,2 +1,2 @@
 pub mod WordLaws
-pub mod ExampleLaws
+pub mod Anchors

@@ -1,3 +1,3 @@
 pub mod HoldsLaws
 pub mod StoredLaws
-pub mod LayoutLaws
+pub mod Anchors

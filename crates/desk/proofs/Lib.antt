@@ -1,3 +1,3 @@
 pub mod NoteLaws
 pub mod CallLaws
-pub mod ExampleLaws
+pub mod Anchors

@@ -14,7 +14,7 @@ abbrev pub buffer : List ℕ
 buffer = 1 ∷ 2 ∷ 3 ∷ []
 
 abbrev pub answer : List ℕ
-answer = 8 ∷ 9 ∷ []
+answer = 8 ∷ 9 ∷ 10 ∷ []
 
 pub record NoteExample : Type 0 where
   -- "128 note: 1..32 bytes"
@@ -23,7 +23,7 @@ pub record NoteExample : Type 0 where
   pub unanswered : noteFits 32 0 ≡ false
   pub accepted : noteResult true ≡ 0
   pub shown : noteBuffer true note buffer ≡ 65 ∷ 66 ∷ 3 ∷ []
-  pub counted : noteAnswer true note answer ≡ 2 ∷ 9 ∷ []
+  pub counted : noteAnswer true note answer ≡ 2 ∷ 9 ∷ 10 ∷ []
   -- too short: 100, "and nothing at all is written"
   pub refused : noteResult false ≡ 100
   pub kept : (noteBuffer false note buffer ≡ buffer) × (noteAnswer false note answer ≡ answer)

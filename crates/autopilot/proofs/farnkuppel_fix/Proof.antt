@@ -9,7 +9,7 @@ use Rattle.c_state.specs.Stored.{stateLength}
 use Rattle.autopilot.specs.Calls.{pairFits}
 use Rattle.autopilot.proofs.CallLaws.{pair-means}
 use Rattle.autopilot.proofs.HeldLaws.{calls-run}
-use Rattle.autopilot.proofs.ExampleLaws.{in-numbers, lengths}
+use Rattle.autopilot.proofs.Anchors.{in-numbers, lengths}
 use Rattle.autopilot.proofs.FixLaws.{pair-short, command-short, fix-fits, fix-unfit, fix-refused, fix-taken}
 use Rattle.autopilot.proofs.farnkuppel_fix.Statement.{statement}
 use Rattle.autopilot.proofs.farnkuppel_fix.Tie as tie

@@ -1,6 +1,6 @@
 -- `put_answer` puts the words of an answer at the front of a part. Assumes nothing.
 use borrow.Author.Needs.{needs}
-use Rattle.c_answer.proofs.ExampleLaws.{answers}
+use Rattle.c_answer.proofs.Anchors.{answers}
 use Rattle.c_answer.specs.Words.{answerWords}
 use Rattle.c_answer.proofs.put_answer.Statement.{statement}
 use Rattle.c_answer.proofs.put_answer.Tie as tie

@@ -1,7 +1,7 @@
 -- `put_command` puts the numbers of a command at the front of a part. Assumes nothing.
 use lib.Ieee.{ofBits}
 use borrow.Author.Needs.{needs}
-use Rattle.c_answer.proofs.ExampleLaws.{commands}
+use Rattle.c_answer.proofs.Anchors.{commands}
 use Rattle.c_answer.specs.Words.{commandNumbers}
 use Rattle.c_answer.proofs.put_command.Statement.{statement}
 use Rattle.c_answer.proofs.put_command.Tie as tie

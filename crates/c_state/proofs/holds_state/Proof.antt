@@ -4,7 +4,7 @@ use Prim.Native.Nat.{ℕ}
 use lib.Dec.{leb}
 use borrow.Author.Needs.{needs}
 use Rattle.c_state.proofs.HoldsLaws.{no-mode, no-radius, no-phase, last-test}
-use Rattle.c_state.proofs.LayoutLaws.{edges}
+use Rattle.c_state.proofs.Anchors.{edges}
 use Rattle.c_state.proofs.holds_state.Statement.{statement}
 use Rattle.c_state.proofs.holds_state.Tie as tie
 

@@ -1,6 +1,6 @@
 -- `put_head` puts the words before the blocks. Assumes nothing.
 use borrow.Author.Needs.{needs}
-use Rattle.c_state.proofs.LayoutLaws.{layout}
+use Rattle.c_state.proofs.Anchors.{layout}
 use Rattle.c_state.proofs.put_head.Statement.{statement}
 use Rattle.c_state.proofs.put_head.Tie as tie
 
