@@ -1,4 +1,4 @@
--- The examples of request 4 hold: the prover computes them, and has those of `Finishes` and `Flies` from these. Assumes nothing.
+-- The examples of request 4 hold; those of `Finishes` and `Flies` are proved from these. Assumes nothing.
 use mathlib.Core.Path.{_≡_, refl}
 use mathlib.Core.Bool.{true, false}
 use lib.Ieee.{ofBits}
@@ -34,6 +34,7 @@ use Rattle.manager.specs.declared.State.{State}
 use Rattle.manager.specs.State.{lastIndex, onLastLeg, lastPhase, atEnd, indexFits, phaseFits, endFits, placedOf, validOf}
 use Rattle.manager.specs.Step.{guideOf, nextOf, refuseOf, movedOf, locatedStep, stepOf}
 use Rattle.manager.specs.LastLeg.{point, state, there, short, accepts, Holds, LastLeg}
+use Rattle.manager.proofs.AnswerExamples.{each}
 use Rattle.manager.proofs.FinishLaws.{finishes}
 use Rattle.manager.proofs.FliesLaws.{flies}
 
@@ -46,9 +47,9 @@ pub last-leg : LastLeg
 unfolding choose nextRoot rootBy rootOf nearestOf wrapOf check andThen isGood sweep both every series scaledSine sineOf cross quarter turned directionOf edgeNorth edgeEast reaches climb bearingIn bearingBy bearingOf offsetOf legOf levelOf plus minus levelLegOf dotOf squareOf lengthOf sidewaysOf dot3Of square3Of halfPlane metOf minorSize crossSize oppositeOf decimetresOf inLimit allInLimit positionOf ofBits lesserTurn turnBetween turnOf tangentOf rightOf roundedOf cornerOf fromOf legGuide lineGuide circleGuide pastOf filletLine filletCircle filletGuide legEnded lastLegGuide betweenOf insideOf inAreaOf zeroOf arcRadius radiusFits padded modeOf coursesFit pairNumber cornerNumber tangentAt tangentNumber legNumber pairsOf cornersOf legsOf geometryOn rulesOn givenOf pointFits courseFits valuesFit placeFits placesFit standsOf lastIndex onLastLeg lastPhase atEnd indexFits phaseFits endFits placedOf validOf guideOf nextOf refuseOf movedOf locatedStep stepOf startsRight endsRight sameSide centreOf circlesOf tangentExists hasPathOf farApart endsNumber
 last-leg =
     record {
-      passed = (refl, (refl, (refl, tt)));
-      ended = (refl, (refl, (refl, (refl, (refl, (refl, (refl, (refl, (refl, tt)))))))));
-      refused = (refl, (refl, (refl, (refl, tt))));
+      passed = each .0;
+      ended = each .1 .0;
+      refused = each .1 .1;
       finished = (
         finishes (state Lines 3 1 false) 7 there .sets refl refl refl,
         (
