@@ -3,8 +3,7 @@ use mathlib.Core.Path.{_≡_, sym, subst}
 use mathlib.Core.Bool.{Bool, true, false}
 use Prim.Native.Nat.{ℕ, _+_, _≤_}
 use lib.Dec.{eqb, ltb, leb→le}
-use lib.IntN.{ℤ, pos}
-use Rattle.integers.specs.Bounds.{Within}
+use lib.IntN.{pos}
 use Rattle.integers.specs.Choose.{choose}
 use Rattle.integers.proofs.BoundLaws.{within-weaken, within-lit}
 use Rattle.course.specs.declared.Vector.{Vector}
@@ -20,7 +19,7 @@ use Rattle.plane.specs.Level.{plus, sidewaysOf}
 use Rattle.plane.proofs.LevelLaws.{plus-near}
 use Rattle.plane.proofs.LegLaws.{leg-is}
 use Rattle.units.proofs.QuotientLaws.{metres-plain, direction-plain}
-use Rattle.fillets.specs.Corners.{turnOf, tangentOf, rightOf, cornerOf}
+use Rattle.fillets.specs.Corners.{turnOf, cornerOf}
 use Rattle.fillets.proofs.TangentLaws.{tangent-le}
 use Rattle.fillets.proofs.CornerLaws.{rounded-is}
 use Rattle.dubins.specs.declared.Ends.{Ends}
@@ -32,7 +31,7 @@ use Rattle.dubins.specs.Choice.{casePath, shortestOf}
 use Rattle.dubins.proofs.ShortestLaws.{shortest-case}
 use Rattle.guidance.specs.declared.Guidance.{Guidance}
 use Rattle.guidance.specs.Commands.{placeMetres, legMetres, lineCommand, courseCommand, circleCommand, PlainMetres, IsCommand, CommandMeans}
-use Rattle.guidance.specs.Guide.{legGuide, lineGuide, circleGuide, filletLine, filletCircle, filletGuide, lastLegGuide, straightGuide, startPassed, endPassed, dubinsGuide}
+use Rattle.guidance.specs.Guide.{legGuide, lineGuide, circleGuide, filletLine, filletCircle, filletGuide, lastLegGuide, straightGuide, dubinsGuide}
 
 pub command-means : CommandMeans
 command-means = record { metres = λ m p. (p .north, (p .east, p .down)); line = λ s d p. p; circle = λ c r s p. p; nothing = λ h. h }

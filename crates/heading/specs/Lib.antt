@@ -1,2 +1,2 @@
 pub mod Heading
-pub mod Examples
+pub mod CheckedExamples

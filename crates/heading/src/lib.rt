@@ -5,7 +5,7 @@ ghost use Prim.Native.Nat.{_≤_, _<_};
 ghost use Rattle.integers.specs.Bounds.{Within};
 ghost use Rattle.course.specs.Vectors.{Near};
 ghost use Rattle.heading.specs.Heading.{lineAngle, lineHeading, circleAngle, roundHeading, circleHeading};
-ghost use Rattle.heading.specs.Examples.{LineExamples, CircleExamples};
+ghost use Rattle.heading.specs.CheckedExamples.{LineExamples, CircleExamples};
 
 // How far the line law leans toward the line: b of a line with direction q, d from its start.
 fn line_angle(q: Vector, d: Vector) -> i64

@@ -1,7 +1,7 @@
 -- A valid state flies: `Flies` holds of every state and fix. Assumes nothing.
 use mathlib.Core.Path.{_≡_, refl, sym, subst}
 use mathlib.Core.Bool.{Bool, true, false}
-use Prim.Native.Nat.{ℕ, _-_, _<_}
+use Prim.Native.Nat.{ℕ, _-_}
 use native.Mathlib.Omega.{arith}
 use lib.Dec.{eqb}
 use borrow.Author.Tests.{eq-eqb}
@@ -15,7 +15,6 @@ use Rattle.units.specs.declared.Position.the-variants.{At, Nowhere}
 use Rattle.units.specs.Position.{positionOf}
 use Rattle.dubins.specs.declared.Found.{Found}
 use Rattle.guidance.specs.declared.Guidance.{Guidance}
-use Rattle.guidance.specs.declared.Command.{Command}
 use Rattle.guidance.specs.Commands.{PlainCommand, HasCommand, IsCommand}
 use Rattle.guidance.proofs.CommandLaws.{line-guide-command, last-leg-command, fillet-command, dubins-command}
 use Rattle.plan.specs.declared.Mode.{Mode}
@@ -26,10 +25,8 @@ use Rattle.manager.specs.declared.State.{State}
 use Rattle.manager.specs.declared.Stepped.{Stepped}
 use Rattle.manager.specs.State.{onLastLeg, validOf, Valid}
 use Rattle.manager.specs.Step.{endsOf, pathGuide, guideOf, guideHere, refuseOf, movedOf, locatedStep, stepOf}
-use Rattle.manager.specs.Finish.{Finishes}
 use Rattle.manager.specs.Flies.{Flies}
 use Rattle.manager.proofs.StateLaws.{valid-means, index-most, fillets-corner, valid-path}
-use Rattle.manager.proofs.FinishLaws.{finishes}
 use Rattle.manager.proofs.StepLaws.{step-14, step-15, step-located, step-moved, step-plan, step-valid}
 
 -- ---- the command of a valid state
@@ -103,7 +100,3 @@ module _ (s : State) (serial : ℕ) (fix : Fix) where
         onward = step-valid s serial fix;
         plain = plain;
       }
-
--- ---- the promise of `State::step`: an equation, and with it the end and the flight
-pub step-promise : (s : State) (serial : ℕ) (fix : Fix) {r : Stepped} → r ≡ stepOf s serial fix → (r ≡ stepOf s serial fix) × (Finishes s fix r × Flies s serial fix r)
-step-promise s serial fix e = (e, (subst (Finishes s fix) (sym e) (finishes s serial fix), subst (Flies s serial fix) (sym e) (flies s serial fix)))

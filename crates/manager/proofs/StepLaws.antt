@@ -1,4 +1,4 @@
--- Laws of one fix: which answer when; a refused fix returns its state; a step keeps the plan, its serial and validity. Assumes nothing.
+-- Laws of one fix: which answer when; a refused fix returns its state; a step keeps the plan and validity. Assumes nothing.
 use mathlib.Core.Path.{_≡_, refl, ap, _∙_}
 use mathlib.Core.Bool.{Bool, true, false}
 use Prim.Native.Nat.{ℕ, _+_, _<_}
@@ -14,7 +14,6 @@ use Rattle.units.specs.declared.Position.{Position}
 use Rattle.units.specs.declared.Position.the-variants.{At, Nowhere}
 use Rattle.units.specs.Position.{positionOf}
 use Rattle.plan.specs.declared.Mode.{Mode}
-use Rattle.plan.specs.declared.Plan.{Plan}
 use Rattle.manager.specs.declared.Progress.{Progress}
 use Rattle.manager.specs.declared.State.{State}
 use Rattle.manager.specs.declared.Stepped.{Stepped}
@@ -93,16 +92,13 @@ step-refused s serial fix =
     choose-refused s (validOf s) _ _
     (choose-refused s (eqb serial (s .plan .head .serial)) _ _ (located-refused s (positionOf fix)) (λ h. refuse-state s 15)) (λ h. refuse-state s 14)
 
--- ---- a step keeps the plan, and so its serial
+-- ---- a step keeps the plan
 goes-plan : {s t : State} → Goes s t → t .plan ≡ s .plan
 goes-plan stays = refl
 goes-plan (moves passed) = refl
 
 pub step-plan : (s : State) (serial : ℕ) (fix : Fix) → stepOf s serial fix .state .plan ≡ s .plan
 step-plan s serial fix = goes-plan (step-goes s serial fix)
-
-pub step-serial : (s : State) (serial : ℕ) (fix : Fix) → stepOf s serial fix .state .plan .head .serial ≡ s .plan .head .serial
-step-serial s serial fix = ap (λ (p : Plan). p .head .serial) (step-plan s serial fix)
 
 -- ---- and validity
 abbrev at : ℕ → ℕ → Bool → Progress

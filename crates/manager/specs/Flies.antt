@@ -1,20 +1,15 @@
--- A plan that stands flies: a valid state answers every fix in range that names its serial, and stays valid. Assumes nothing.
+-- A state that 14 does not refuse flies: it answers every fix in range that names its serial, and so does the state after it. Assumes nothing.
 use mathlib.Core.Path.{_≡_}
-use mathlib.Core.Bool.{true, false}
+use mathlib.Core.Bool.{true}
 use Prim.Native.Nat.{ℕ}
-use Rattle.refusals.specs.Numbers.{noState}
 use Rattle.plane.specs.declared.Point.{Point}
 use Rattle.units.specs.declared.Fix.{Fix}
 use Rattle.units.specs.declared.Position.the-variants.{At}
 use Rattle.units.specs.Position.{positionOf}
 use Rattle.guidance.specs.Commands.{PlainCommand, HasCommand}
-use Rattle.plan.specs.declared.Plan.{Plan}
-use Rattle.plan.specs.Stands.{standsOf}
 use Rattle.manager.specs.declared.State.{State}
-use Rattle.manager.specs.declared.Progress.{Progress}
 use Rattle.manager.specs.declared.Stepped.{Stepped}
-use Rattle.manager.specs.State.{emptyState, validOf}
-use Rattle.manager.specs.Step.{refuseOf, stepOf}
+use Rattle.manager.specs.State.{validOf}
 
 -- what r, the answer to a fix on s, owes whoever flies s
 pub record Flies (s : State) (serial : ℕ) (fix : Fix) (r : Stepped) : Type 0 where
@@ -26,12 +21,3 @@ pub record Flies (s : State) (serial : ℕ) (fix : Fix) (r : Stepped) : Type 0 w
   pub onward : validOf s ≡ true → validOf (r .state) ≡ true
   -- every number of the command is a finite f32 and not −0.0, whatever the state and the fix
   pub plain : PlainCommand (r .answer .command)
-
--- every plan that stands can be flown from this progress
-abbrev pub StartsAt : Progress → Type 0
-StartsAt first = (p : Plan) → standsOf p ≡ true → validOf (record { plan = p; progress = first }) ≡ true
-
--- "The empty state .. a fix or write on it is refused 14"
-pub record Empty (s : State) : Type 0 where
-  pub invalid : validOf s ≡ false
-  pub refused : (serial : ℕ) (fix : Fix) → stepOf s serial fix ≡ refuseOf s noState

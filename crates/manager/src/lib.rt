@@ -12,9 +12,10 @@ use units::Fix;
 use units::Position;
 ghost use mathlib.Core.Path.{_≡_};
 ghost use mathlib.Core.Bool.{true, false};
-ghost use Prim.Native.Nat.{_-_, _≤_, _<_};
+ghost use Prim.Native.Nat.{ℕ, _-_, _≤_, _<_};
 ghost use Rattle.integers.specs.Choose.{choose};
 ghost use Rattle.refusals.specs.Sweep.{both};
+ghost use Rattle.refusals.specs.Numbers.{noState};
 ghost use Rattle.plane.specs.Area.{InArea};
 ghost use Rattle.fillets.specs.Corners.{turnOf};
 ghost use Rattle.dubins.specs.Limits.{IsEnds};
@@ -22,11 +23,12 @@ ghost use Rattle.dubins.specs.Choice.{shortestOf};
 ghost use Rattle.guidance.specs.Guide.{lineGuide, filletGuide, lastLegGuide};
 ghost use Rattle.plan.specs.Limits.{mostPoints, mostRadius, mostTurn};
 ghost use Rattle.plan.specs.Places.{placeAt, courseAt, seen};
-ghost use Rattle.plan.specs.Stands.{Placed, Aiming, Long};
+ghost use Rattle.plan.specs.Stands.{standsOf, Placed, Aiming, Long};
 ghost use Rattle.manager.specs.State.{emptyState, firstProgress, viewed, lastIndex, onLastLeg, lastPhase, atEnd, indexFits, phaseFits, endFits, placedOf, validOf, Valid};
-ghost use Rattle.manager.specs.Step.{pathGuide, guideHere, nextOf, steppedBy, refusedAt, answered, movedOf, stepOf};
+ghost use Rattle.manager.specs.Step.{pathGuide, guideHere, nextOf, steppedBy, refusedAt, refuseOf, answered, movedOf, stepOf};
 ghost use Rattle.manager.specs.Finish.{Finishes};
-ghost use Rattle.manager.specs.Flies.{Flies, StartsAt, Empty};
+ghost use Rattle.manager.specs.LastLeg.{LastLeg};
+ghost use Rattle.manager.specs.Flies.{Flies};
 
 // How far a plan is flown: the index of the point that is flown to, from 1, the phase there, and whether the end was reached.
 pub struct Progress {
@@ -66,7 +68,7 @@ pub struct Stepped {
 
 // The state of no plan, which every fix and write refuses.
 pub fn empty() -> State
-    ensures { λ r. ⌜ (r ≡ emptyState) × Empty r ⌝ }
+    ensures { λ r. ⌜ (r ≡ emptyState) × ((validOf r ≡ false) × ((serial : ℕ) (fix : Fix) → stepOf r serial fix ≡ refuseOf r noState)) ⌝ }
 {
     let head = Head {
         serial: 0,
@@ -91,7 +93,7 @@ pub fn empty() -> State
 
 // How far a plan is flown at its start.
 pub fn first() -> Progress
-    ensures { λ r. ⌜ (r ≡ firstProgress) × StartsAt r ⌝ }
+    ensures { λ r. ⌜ (r ≡ firstProgress) × ((p : Plan) → standsOf p ≡ true → validOf (record { plan = p; progress = r }) ≡ true) ⌝ }
 {
     Progress {
         index: 2,
@@ -400,7 +402,7 @@ pub fn decide<'a>(
 impl State {
     // One fix of a state, which lends its own numbers.
     pub fn step(self, serial: u32, fix: Fix) -> Stepped
-        ensures { λ r. ⌜ (r ≡ stepOf self serial fix) × (Finishes self fix r × Flies self serial fix r) ⌝ }
+        ensures { λ r. ⌜ (r ≡ stepOf self serial fix) × (Finishes self fix r × (Flies self serial fix r × LastLeg)) ⌝ }
     {
         let plan = self.plan;
         let head = self.plan.head;

@@ -4,3 +4,4 @@ pub mod DecimetreLaws
 pub mod PatternLaws
 pub mod PositionLaws
 pub mod QuotientLaws
+pub mod CheckedExamples

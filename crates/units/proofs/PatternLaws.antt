@@ -64,8 +64,8 @@ module _ (x : Float) (held : T (fits binary32 x)) (h : T (inLimit 50000 x)) wher
   unfolding unsignedDecimetres
   bits-decimetres = decimetres-value x (leb 2147483648 bits) (unitsOf (fieldOf bits) (digitsOf bits)) (2 ^ 149) (pow-pos 149) bits-value
 
--- ---- below field 120 the size is under half a decimetre
-less : (u P C t : ℕ) → u ≤ P → 0 < P → C ≡ P * 2147483648 → t < 8388608 → (8388608 + t) * u * 10 * 2 < C
+-- ---- below field 122 the size is under half a decimetre
+less : (u P C t : ℕ) → u ≤ P → 0 < P → C ≡ P * 536870912 → t < 8388608 → (8388608 + t) * u * 10 * 2 < C
 less u P C t h p e k =
     let q : (8388608 + t) * u ≤ 16777216 * u = mul-le-mul-right u (omega arith) in
     omega arith
@@ -73,14 +73,14 @@ less u P C t h p e k =
 less-zero : (C t : ℕ) → 167772160 ≤ C → t < 8388608 → t * 10 * 2 < C
 less-zero C t h k = omega arith
 
-under-half : (field digits : ℕ) → digits < 8388608 → field < 120 → unitsOf field digits * 10 * 2 < 2 ^ 149
+under-half : (field digits : ℕ) → digits < 8388608 → field < 122 → unitsOf field digits * 10 * 2 < 2 ^ 149
 unfolding unitsOf
 under-half zero t k h = less-zero (2 ^ 149) t (lit≤ tt) k
 under-half (suc j) t k h =
-    let g : j ≤ 118 = omega arith in
-    less (2 ^ j) (2 ^ 118) (2 ^ 149) t (pow-mono g) (pow-pos 118) refl k
+    let g : j ≤ 120 = omega arith in
+    less (2 ^ j) (2 ^ 120) (2 ^ 149) t (pow-mono g) (pow-pos 120) refl k
 
-pub decimetres-small : (b : ℕ) → fieldOf b < 120 → unsignedDecimetres b ≡ 0
+pub decimetres-small : (b : ℕ) → fieldOf b < 122 → unsignedDecimetres b ≡ 0
 unfolding unsignedDecimetres
 decimetres-small b h =
     let k : digitsOf b < 8388608 = omega arith in
@@ -121,10 +121,11 @@ units-large (suc j) t from upto =
     (ratio (8388608 + t) (2 ^ j) (2 ^ (149 - j)) (2 ^ 149) (split j (omega arith)))
     ∙ ap (λ (z : ℕ). nearestQuotient ((8388608 + t) * 10) (2 ^ z)) e
 
-pub decimetres-large : (b one : ℕ) → 120 ≤ fieldOf b → fieldOf b ≤ 142 → one ≡ 2 ^ (150 - fieldOf b) → ((8388608 + digitsOf b) * 20 + one) / (2 * one) ≡ unsignedDecimetres b
+-- n / d, however they are worked out
+pub decimetres-large : (b one n d : ℕ) → 120 ≤ fieldOf b → fieldOf b ≤ 142 → one ≡ 2 ^ (150 - fieldOf b) → n ≡ (8388608 + digitsOf b) * 10 * 2 + one → d ≡ 2 * one
+    → n / d ≡ unsignedDecimetres b
 unfolding unsignedDecimetres
-decimetres-large b one from upto e =
-    let g : (8388608 + digitsOf b) * 20 ≡ (8388608 + digitsOf b) * 10 * 2 = omega arith in
-    ap (λ (n : ℕ). (n + one) / (2 * one)) g
+decimetres-large b one n d from upto e f g =
+    (λ i. f i / g i)
     ∙ ap (λ (n : ℕ). nearestQuotient ((8388608 + digitsOf b) * 10) n) e
     ∙ sym (units-large (fieldOf b) (digitsOf b) from upto)

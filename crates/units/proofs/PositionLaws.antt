@@ -5,14 +5,15 @@ use lib.Dec.{T}
 use lib.Ieee.Fits.{and-l, and-r}
 use Rattle.integers.specs.Choose.{choose}
 use Rattle.integers.proofs.ChooseLaws.{choose-true, choose-false}
-use Rattle.plane.specs.declared.Point.{Point}
 use Rattle.plane.specs.Area.{InArea}
 use Rattle.units.specs.declared.Fix.{Fix}
 use Rattle.units.specs.declared.Position.{Position}
 use Rattle.units.specs.declared.Position.the-variants.{At, Nowhere}
 use Rattle.units.specs.Decimetres.{inLimit}
 use Rattle.units.specs.Position.{pointOf, allInLimit, positionOf, IsPosition}
+use Rattle.units.specs.CheckedExamples.{FixExamples}
 use Rattle.units.proofs.DecimetreLaws.{decimetres-within}
+use Rattle.units.proofs.CheckedExamples.{fix-examples}
 
 module _ (f : Fix) (h : T (allInLimit f)) where
   rest : T (inLimit 50000 (f .east) && inLimit 10000 (f .down))
@@ -55,9 +56,6 @@ position-in-area f = when (allInLimit f) (area f)
     when true h = h tt
     when false h = tt
 
-pub point-in-area : (f : Fix) (p : Point) → positionOf f ≡ At p → InArea p
-point-in-area f p e = subst IsPosition e (position-in-area f)
-
--- an equation, and the area of what it says
-pub placed : {r : Position} (f : Fix) → r ≡ positionOf f → (r ≡ positionOf f) × IsPosition r
-placed f e = (e, subst IsPosition (sym e) (position-in-area f))
+-- ---- the promise of `locate`
+pub placed : {r : Position} (f : Fix) → r ≡ positionOf f → (r ≡ positionOf f) × (IsPosition r × FixExamples)
+placed f e = (e, (subst IsPosition (sym e) (position-in-area f), fix-examples))

@@ -21,7 +21,7 @@ use mir.Syntax.{w64}
 use mir.Val.{toZ, ofZ}
 use Rattle.integers.specs.Bounds.{Within}
 use Rattle.integers.proofs.BoundLaws.{within-weaken}
-use Rattle.units.specs.Metres.{quotientOf, metresOf, directionPartOf, RoundedOnce, Exactly, Plain, PlainMeans}
+use Rattle.units.specs.Metres.{quotientOf, metresOf, directionPartOf, Exactly, Plain, PlainMeans}
 use Rattle.units.proofs.ConversionLaws.{read-back, converted}
 
 -- ---- where a value is not zero, its digits are not
@@ -140,7 +140,7 @@ plain-means =
     }
 
 -- ---- the promises of `metres` and `direction_part`
-pub metres-promise : {r : Float} {d : ℤ} → Within 1000000 d → r ≡ metresOf d → (r ≡ metresOf d) × (RoundedOnce r d 10 × (Plain r × PlainMeans))
+pub metres-promise : {r : Float} {d : ℤ} → Within 1000000 d → r ≡ metresOf d → (r ≡ metresOf d) × ((r ≡ round binary32 (not (nonNeg d)) (natAbs d) 10) × (Plain r × PlainMeans))
 unfolding metresOf
 metres-promise {r} {d} h e = (e, (e ∙ quotient-rounded d 10 (within-weaken h tt) (lit< tt) (lit≤ tt), (subst Plain (sym e) (metres-plain d h), plain-means)))
 

@@ -5,7 +5,7 @@ use Prim.Native.Nat.{ℕ}
 use lib.Dec.{T}
 use lib.IntN.{ℤ, pos, natAbs}
 use lib.Signed.{nonNeg}
-use lib.Ieee.{Float, nan, inf, fin, binary32, div, fits, isNan, ofInt, round, toBits}
+use lib.Ieee.{Float, nan, inf, fin, binary32, div, fits, isNan, ofInt, toBits}
 use lib.Ieee.Exact.{HasValue}
 
 -- z / c: both are converted, and the quotient is rounded. Up to 2^24 in size the conversions are exact.
@@ -17,10 +17,6 @@ metresOf d = quotientOf d 10
 
 unfoldable pub directionPartOf : ℤ → Float
 directionPartOf x = quotientOf x 16384
-
--- x is z / c, rounded once
-abbrev pub RoundedOnce : Float → ℤ → ℕ → Type 0
-RoundedOnce x z c = x ≡ round binary32 (not (nonNeg z)) (natAbs z) c
 
 -- x is z / c exactly
 abbrev pub Exactly : Float → ℤ → ℕ → Type 0

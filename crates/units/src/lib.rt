@@ -1,12 +1,17 @@
 // Between f32 metres and whole decimetres, both ways, and directions as f32 (document 01, "One fix").
 ghost use mathlib.Core.Path.{_≡_};
 ghost use Prim.Native.Nat.{_≤_};
+ghost use mathlib.Core.Bool.{not};
 ghost use lib.Dec.{T};
+ghost use lib.IntN.{natAbs};
+ghost use lib.Signed.{nonNeg};
+ghost use lib.Ieee.{binary32, round};
 ghost use Rattle.integers.specs.Bounds.{Within};
 ghost use Rattle.units.specs.Decimetres.{decimetresOf, inLimit};
 ghost use Rattle.units.specs.Pattern.{fieldOf, unsignedDecimetres};
 ghost use Rattle.units.specs.Position.{allInLimit, positionOf, IsPosition};
-ghost use Rattle.units.specs.Metres.{metresOf, directionPartOf, RoundedOnce, Exactly, Plain, PlainMeans};
+ghost use Rattle.units.specs.CheckedExamples.{FixExamples};
+ghost use Rattle.units.specs.Metres.{metresOf, directionPartOf, Exactly, Plain, PlainMeans};
 
 // A position fix, in metres.
 pub struct Fix {
@@ -62,7 +67,7 @@ fn decimetres(x: f32) -> i32
 
 // The position of a fix; there is none where a part is NaN, infinite or beyond its limit.
 pub fn locate(fix: Fix) -> Position
-    ensures { λ r. ⌜ (r ≡ positionOf fix) × IsPosition r ⌝ }
+    ensures { λ r. ⌜ (r ≡ positionOf fix) × (IsPosition r × FixExamples) ⌝ }
 {
     if all_in_limit(fix) {
         return Position::At(plane::Point {
@@ -77,7 +82,7 @@ pub fn locate(fix: Fix) -> Position
 // d decimetres in metres.
 pub fn metres(d: i64) -> f32
     requires { ⌜ Within 1000000 d ⌝ }
-    ensures { λ r. ⌜ (r ≡ metresOf d) × (RoundedOnce r d 10 × (Plain r × PlainMeans)) ⌝ }
+    ensures { λ r. ⌜ (r ≡ metresOf d) × ((r ≡ round binary32 (not (nonNeg d)) (natAbs d) 10) × (Plain r × PlainMeans)) ⌝ }
 {
     (d as f32) / 10.0
 }

@@ -4,7 +4,7 @@ use mir.Syntax.{w64}
 use borrow.Author.Needs.{needs}
 use Rattle.integers.proofs.BoundLaws.{kept}
 use Rattle.heading.specs.Heading.{circleAngle, roundHeading, circleHeading}
-use Rattle.heading.proofs.ExampleLaws.{circle-examples}
+use Rattle.heading.proofs.CheckedExamples.{circle-examples}
 use Rattle.heading.proofs.circle_heading.Statement.{statement}
 use Rattle.heading.proofs.circle_heading.Tie as tie
 

@@ -12,7 +12,7 @@ use Rattle.integers.proofs.ValueLaws.{value, uneven, is}
 use Rattle.integers.proofs.WrapLaws.{wrap-low}
 use Rattle.course.specs.Bearing.{bearingOf}
 use Rattle.heading.specs.Heading.{lineAngle, lineHeading}
-use Rattle.heading.proofs.ExampleLaws.{line-examples}
+use Rattle.heading.proofs.CheckedExamples.{line-examples}
 use Rattle.heading.proofs.line_heading.Statement.{statement}
 use Rattle.heading.proofs.line_heading.Tie as tie
 

@@ -21,7 +21,7 @@ moved-requires : tie.Need-moved-requires
 moved-requires c κs =
     let l = c .before .before .before in
     let v = l .before .before .before in
-    (v .before .before .pre, (v .before .valid .ensures .1 (v .if1 .taken), subst IsPosition (c .before .at .given .1) (l .locate .ensures .1)))
+    (v .before .before .pre, (v .before .valid .ensures .1 (v .if1 .taken), subst IsPosition (c .before .at .given .1) (l .locate .ensures .1 .0)))
 
 enum-told : tie.Need-enum-told
 enum-told c = search needs

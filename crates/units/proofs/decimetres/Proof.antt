@@ -2,6 +2,7 @@
 use mathlib.Core.Path.{_≡_, refl, sym, _∙_, ap, subst}
 use mathlib.Core.Bool.{Bool}
 use Prim.Native.Nat.{ℕ, _≤_}
+use native.Mathlib.Omega.{arith}
 use lib.IntN.{natAbs}
 use lib.Dec.{T, leb}
 use lib.Ieee.{binary32, fits, toBits}
@@ -27,21 +28,24 @@ unsigned-decimetres-requires : tie.Need-unsigned-decimetres-requires
 unsigned-decimetres-requires c κs = field-most (c .args .x) (held c) (c .pre)
 
 module _ (c : tie.After-unsigned-decimetres) where
+  abbrev pattern : ℕ
+  pattern = toBits binary32 (c .before .args .x)
+
   abbrev size : ℕ
   size = c .unsigned-decimetres .result
 
   -- by the topmost bit, t
-  with-sign : {t : Bool} → leb 2147483648 (toBits binary32 (c .before .args .x)) ≡ t → signed t size ≡ decimetresOf (c .before .args .x)
+  with-sign : {t : Bool} → leb 2147483648 pattern ≡ t → signed t size ≡ decimetresOf (c .before .args .x)
   with-sign {t} e =
       let s = c .before in
       let x = s .args .x in
       ap (signed t) (c .unsigned-decimetres .ensures)
-      ∙ sym (bits-decimetres x (held s) (s .pre) ∙ ap (λ (b : Bool). signed b (unsignedDecimetres (toBits binary32 x))) e)
+      ∙ sym (bits-decimetres x (held s) (s .pre) ∙ ap (λ (b : Bool). signed b (unsignedDecimetres pattern)) e)
 
   most : size ≤ 500000
   most =
       let x = c .before .args .x in
-      subst (λ (n : ℕ). n ≤ 500000) (sym (ap natAbs (with-sign refl)) ∙ size-signed (leb 2147483648 (toBits binary32 x)) size)
+      subst (λ (n : ℕ). n ≤ 500000) (sym (ap natAbs (with-sign refl)) ∙ size-signed (leb 2147483648 pattern) size)
       (decimetres-within 50000 x (c .before .pre) .within)
 
 cast-size : tie.Need-cast-size
@@ -57,12 +61,12 @@ sub-result c =
 returns : tie.Need-returns
 returns c =
     let h = most (c .before) in
-    via (with-sign (c .before) (le-leb _ _ (c .if1 .taken))) (search value depth 20 fits 5000)
+    via (with-sign (c .before) (le-leb 2147483648 (pattern (c .before)) (omega (arith, c .if1 .taken)))) (search value depth 20 fits 5000)
 
 returns-2 : tie.Need-returns-2
 returns-2 c =
     let h = most (c .before) in
-    via (with-sign (c .before) (lt-leb _ _ (c .if1 .left))) (search value depth 20 fits 5000)
+    via (with-sign (c .before) (lt-leb 2147483648 (pattern (c .before)) (omega (arith, c .if1 .left)))) (search value depth 20 fits 5000)
 
 pub decimetres-spec : {M : Type 1} → statement M
 decimetres-spec =

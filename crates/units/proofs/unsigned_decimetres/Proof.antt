@@ -1,5 +1,6 @@
 -- `unsigned_decimetres` gives the size of a float from its bits, to the nearest decimetre. Assumes nothing.
 use mathlib.Core.Path.{sym}
+use Prim.Native.Nat.{_≤_}
 use native.Mathlib.Omega.{arith}
 use borrow.Author.Needs.{needs}
 use Rattle.units.specs.Pattern.{fieldOf}
@@ -8,7 +9,10 @@ use Rattle.units.proofs.unsigned_decimetres.Statement.{statement}
 use Rattle.units.proofs.unsigned_decimetres.Tie as tie
 
 returns : tie.Need-returns
-returns c = sym (decimetres-small (c .before .args .bits) (c .if1 .taken))
+returns c = sym (decimetres-small (c .before .args .bits) (omega (arith, c .if1 .taken)))
+
+from : (c : tie.Else1) → 120 ≤ fieldOf (c .before .args .bits)
+from c = omega (arith, c .if1 .left)
 
 add-digits : tie.Need-add-digits
 add-digits c = search needs
@@ -23,18 +27,18 @@ mul-result : tie.Need-mul-result
 mul-result c = search needs
 
 add-result : tie.Need-add-result
-add-result c = omega (arith, one-le (fieldOf (c .before .args .bits)) (c .if1 .left))
+add-result c = omega (arith, one-le (fieldOf (c .before .args .bits)) (from c))
 
 mul-result-2 : tie.Need-mul-result-2
-mul-result-2 c = omega (arith, one-le (fieldOf (c .before .args .bits)) (c .if1 .left))
+mul-result-2 c = omega (arith, one-le (fieldOf (c .before .args .bits)) (from c))
 
 div-result : tie.Need-div-result
-div-result c = omega (arith, one-pos (fieldOf (c .before .args .bits)) (c .if1 .left))
+div-result c = omega (arith, one-pos (fieldOf (c .before .args .bits)) (from c))
 
 returns-2 : tie.Need-returns-2
 returns-2 c =
     let b = c .before .args .bits in
-    decimetres-large b _ (c .if1 .left) (c .before .pre) (one-is (fieldOf b) (c .if1 .left))
+    decimetres-large b _ _ _ (from c) (c .before .pre) (one-is (fieldOf b) (from c)) (omega arith) (omega arith)
 
 pub unsigned-decimetres-spec : {M : Type 1} → statement M
 unsigned-decimetres-spec =

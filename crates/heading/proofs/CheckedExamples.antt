@@ -9,7 +9,7 @@ use Rattle.course.specs.Direction.{quarter, turned, directionOf}
 use Rattle.course.specs.Bearing.{edgeNorth, edgeEast, reaches, climb, bearingIn, bearingBy, bearingOf, signedOf}
 use Rattle.plane.specs.Level.{dotOf, squareOf, lengthOf}
 use Rattle.heading.specs.Heading.{lineAngle, lineHeading, circleAngle, roundHeading, circleHeading}
-use Rattle.heading.specs.Examples.{LineExamples, CircleExamples}
+use Rattle.heading.specs.CheckedExamples.{LineExamples, CircleExamples}
 
 pub line-examples : LineExamples
 unfolding choose nextRoot rootBy rootOf wrapOf series scaledSine sineOf cross quarter turned directionOf edgeNorth edgeEast reaches climb bearingIn bearingBy bearingOf signedOf dotOf squareOf lengthOf lineAngle lineHeading

@@ -1,0 +1,11 @@
+-- 14 refuses the empty state. Assumes nothing.
+use mathlib.Core.Path.{_≡_, refl}
+use mathlib.Core.Bool.{false}
+use Rattle.integers.specs.Choose.{choose}
+use Rattle.refusals.specs.Sweep.{both}
+use Rattle.plan.specs.Stands.{standsOf}
+use Rattle.manager.specs.State.{emptyState, validOf}
+
+pub empty-invalid : validOf emptyState ≡ false
+unfolding choose both standsOf validOf
+empty-invalid = refl
