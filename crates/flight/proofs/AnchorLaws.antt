@@ -27,7 +27,7 @@ use Rattle.wpl.proofs.LoadLaws.{loaded-good, loaded-refused}
 use Rattle.flight.specs.Run.{Named, stepBy, run, none, next, Alike, AlikeRuns, ended, onward, Answered, PlainRun}
 use Rattle.flight.specs.Demand.{IsOlder, Loads, RefusesAsTooNew, IsLater, Demand, cutOut}
 use Rattle.flight.specs.Flight.{lastOf}
-use Rattle.flight.specs.TwoFlights.{flownWith, answersWith, commandsWith, TwoFlights}
+use Rattle.flight.specs.TwoFlights.{flownWith, answersWith, commandsWith, OlderFlights}
 use Rattle.flight.specs.Anchors.{Outright, Anchored}
 use Rattle.flight.proofs.LaterLaws.{cut-loads, uncut-loads}
 use Rattle.flight.proofs.WitnessLaws.{each}
@@ -148,15 +148,17 @@ module _ (d : Demand) where
       }
 
 -- ---- two flights
-module _ (f serials : List ℕ) (fixes : List Float) (answers : List ℕ) (commands : List Float) (r : ℕ) where
-  abbrev Same : Type 0
-  Same =
+module _ (f serials : List ℕ) (fixes : List Float) (answers : List ℕ) (commands : List Float) where
+  abbrev Same : ℕ → Type 0
+  Same r =
       (flownWith f serials fixes answers commands r ≡ flownWith f serials fixes answers commands 3)
       × ((answersWith f serials fixes answers commands r ≡ answersWith f serials fixes answers commands 3)
       × (commandsWith f serials fixes answers commands r ≡ commandsWith f serials fixes answers commands 3))
 
-  refused-or-same : TwoFlights f serials fixes answers commands r → (flownWith f serials fixes answers commands r .refusal ≡ 7) ⊎ Same
-  refused-or-same x =
+  refused-or-same : OlderFlights f serials fixes answers commands → flownWith f serials fixes answers commands 3 .refusal ≡ 0 → (r : ℕ) → 1 ≤ r → r ≤ 2
+      → (flownWith f serials fixes answers commands r .refusal ≡ 7) ⊎ Same r
+  refused-or-same flights flies r low high =
+      let x = flights r (older-numbers r low high) flies in
       by-bool (holdsNewer r (recordsOf f)) (λ t. inl (x .refuses .1 t)) (λ u. inr (x .flown u, (x .answered u, x .commanded u)))
 
 pub anchored : Anchored

@@ -24,7 +24,7 @@ use Rattle.wpl.specs.Load.{recordsOf, loadOf, loadedOf}
 use Rattle.flight.specs.Run.{Named, stepBy, run, Alike, AlikeRuns}
 use Rattle.flight.specs.Demand.{IsOlder, Loads, RefusesAsTooNew, IsCut, IsLater, Demand}
 use Rattle.flight.specs.Flight.{lastOf}
-use Rattle.flight.specs.TwoFlights.{flownWith, answersWith, commandsWith, TwoFlights}
+use Rattle.flight.specs.TwoFlights.{flownWith, answersWith, commandsWith, OlderFlights}
 use Rattle.flight.specs.Witnesses.{All, claims}
 
 -- demand 3 with none of its own words: readers by their numbers, loads and runs as the contracts have them, the cut file by its bytes
@@ -38,8 +38,8 @@ pub record Outright : Type 0 where
   pub left : (f : List ℕ) → 3 < versionOf f → headerOf f ≡ good done → fills (recordsOf f) ≡ true
       → (headerOf (withHeader 3 (serialOf f) (flat (sift (recordsOf f)))) ≡ good done)
       × (recordsOf (withHeader 3 (serialOf f) (flat (sift (recordsOf f)))) ≡ sift (recordsOf f))
-  -- the answer to a fix after any others
   pub valid : (r : ℕ) (f : List ℕ) (s : State) → loadOf r f ≡ good s → validOf s ≡ true
+  -- the answer to a fix after any others
   pub flies : (r : ℕ) (f : List ℕ) (s : State) → loadOf r f ≡ good s → (before : List Named) (x : Named) → x .serial ≡ serialOf f → (p : Point) → positionOf (x .fix) ≡ At p
       → (stepBy (lastOf s (run s before)) x .answer .refusal ≡ 0) × (stepBy (lastOf s (run s before)) x .answer .command ≡ Nothing → ⊥)
   pub plain : (s : State) (before : List Named) (x : Named) → PlainCommand (stepBy (lastOf s (run s before)) x .answer .command)
@@ -59,8 +59,9 @@ pub record Anchored : Type 0 where
   -- there are such files, in bytes
   pub files : All claims
   pub outright : Demand → Outright
-  -- two flights: one is refused as too new, or both are the same
-  pub flights : (f serials : List ℕ) (fixes : List Float) (answers : List ℕ) (commands : List Float) (r : ℕ) → TwoFlights f serials fixes answers commands r
+  -- where reader three flies, reader one's flight and reader two's are refused as too new, or they are the same
+  pub flights : (f serials : List ℕ) (fixes : List Float) (answers : List ℕ) (commands : List Float) → OlderFlights f serials fixes answers commands
+      → flownWith f serials fixes answers commands 3 .refusal ≡ 0 → (r : ℕ) → 1 ≤ r → r ≤ 2
       → (flownWith f serials fixes answers commands r .refusal ≡ 7)
       ⊎ ((flownWith f serials fixes answers commands r ≡ flownWith f serials fixes answers commands 3)
       × ((answersWith f serials fixes answers commands r ≡ answersWith f serials fixes answers commands 3)
