@@ -11,7 +11,7 @@ use lib.Ieee.{Float}
 use borrow.Author.Tests.{le-leb, lt-leb}
 use Rattle.integers.proofs.ChooseLaws.{choose-true, choose-false}
 use Rattle.refusals.specs.Numbers.{misfit, noState}
-use Rattle.refusals.specs.Outcome.{Outcome, good, refused}
+use Rattle.refusals.specs.Outcome.{good, refused}
 use Rattle.refusals.proofs.Bools.{clash, both-true, both-off-second, both-off}
 use Rattle.refusals.proofs.OutcomeLaws.{check-true, check-false, never-good}
 use Rattle.buffers.specs.Splice.{over, splice}

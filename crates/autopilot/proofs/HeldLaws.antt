@@ -11,7 +11,7 @@ use lib.ListN.{length}
 use Rattle.integers.specs.Choose.{choose}
 use Rattle.integers.proofs.ChooseLaws.{choose-true}
 use Rattle.refusals.specs.Outcome.{Outcome, good, refused, isGood}
-use Rattle.refusals.specs.Sweep.{Done, done}
+use Rattle.refusals.specs.Sweep.{Done}
 use Rattle.refusals.proofs.Bools.{by-bool, clash}
 use Rattle.refusals.proofs.OutcomeLaws.{then-means}
 use Rattle.buffers.specs.Splice.{over}
@@ -32,7 +32,7 @@ use Rattle.manager.proofs.StepLaws.{step-14, step-plan, step-valid}
 use Rattle.records.specs.Kinds.{Parts, noParts}
 use Rattle.records.specs.Gather.{headerLength, InRange}
 use Rattle.records.proofs.GatherLaws.{gather-ranged, none-ranged}
-use Rattle.c_state.specs.Stored.{stateWords, takenOf, Storable}
+use Rattle.c_state.specs.Stored.{stateWords, Storable}
 use Rattle.c_state.proofs.StoredLaws.{empty-words, taken-back}
 use Rattle.wpl.specs.Header.{versionOf, serialOf}
 use Rattle.wpl.specs.Load.{recordsOf, partsOf, settleOf, rulesIn, finishOf, loadOf, loadedOf}
@@ -42,7 +42,7 @@ use Rattle.flight.specs.Run.{run}
 use Rattle.flight.specs.Flight.{lastOf}
 use Rattle.autopilot.specs.Calls.{loadState, fixWords, fixNumbers, fixNumber, fixNext}
 use Rattle.autopilot.specs.Held.{Hold, LoadHolds}
-use Rattle.autopilot.specs.CallList.{Call, fix, write, Reply, fixed, written, replyTo, wordsAfter, replies, wordsInTheEnd, fixesOf, repliesOf, CallsRun}
+use Rattle.autopilot.specs.CallList.{Call, fix, write, fixed, written, replyTo, wordsAfter, replies, wordsInTheEnd, fixesOf, repliesOf, CallsRun}
 use Rattle.autopilot.proofs.CallLaws.{from-state}
 
 -- ---- a loaded state: its radius and count are in their ranges, and its serial is a word's

@@ -95,6 +95,7 @@ pub record Example : Type 0 where
   pub replied : replies (wordsAt (pos 2) (pos 0)) calls ≡ wanted
   pub ended : wordsInTheEnd (wordsAt (pos 2) (pos 0)) calls ≡ wordsAt (pos 3) (pos 1)
   pub none : replies (replicate 263 (negsuc 0)) asked ≡ refusing 4294967295
+  pub left : wordsInTheEnd (replicate 263 (negsuc 0)) asked ≡ replicate 263 (negsuc 0)
   pub empty : replies (states 263) asked ≡ refusing 0
 
 -- what is no load and no fix: a load that leaves other words, a refused one that leaves them as they were, a fix at the point that is flown to which

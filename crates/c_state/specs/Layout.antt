@@ -1,9 +1,8 @@
 -- What holds of a state's words, whatever their definitions say: they are taken for the state that was put into them; a Dubins state of three
 -- points and the empty state in numbers; and the largest mode, radius, phase and finished that words may hold. Assumes nothing.
 use mathlib.Core.Path.{_≡_}
-use mathlib.Core.Bool.{Bool, true, false}
+use mathlib.Core.Bool.{true}
 use mathlib.Core.List.{List, [], _∷_, _++_}
-use Prim.Native.Nat.{ℕ}
 use lib.IntN.{ℤ, pos, negsuc}
 use lib.ListN.{replicate}
 use Rattle.refusals.specs.Outcome.{good, refused, isGood}
