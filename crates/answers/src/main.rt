@@ -4,10 +4,8 @@
 //   N  the note of that number: its bytes
 //   W  the file, loaded by the newest reader and written at the version of that number into so much room: refusal, place, length, and the
 //      room's bytes afterwards, which were AA before
-use console::write;
-use console::write_decimal;
 use libc::STDIN_FILENO;
-use libc::STDOUT_FILENO;
+use wpl::Written;
 ghost use mathlib.Core.Path.{_≡_};
 ghost use Prim.Native.Nat.{_≤_};
 ghost use lib.ListN.{length};
@@ -33,31 +31,28 @@ const MOST_ROOM: usize = 8192;
 // What stands in the room before.
 const BLANK: u8 = 0xAA;
 
-fn write_byte(byte: u8) {
-    io::print_hex(STDOUT_FILENO, byte as u64, 2);
-}
+// Room for a line: that of a write into the most room.
+const LINE: usize = 88 + 2 * MOST_ROOM;
 
-// The bytes in hexadecimal.
-fn write_bytes(bytes: &[u8]) {
-    write(b" ");
-    let mut i: usize = 0;
-    while i < bytes.len() {
-        write_byte(bytes[i]);
-        i += 1;
-    }
-    write(b"\n");
+fn say(text: &[u8]) {
+    console::write(text, text.len());
 }
 
 fn show_load(file: &[u8], reader: u32) {
     let loaded = wpl::load(file, reader);
-    write(b"load ");
-    console::write_refusal(loaded.refusal, loaded.place);
-    write(b"\n");
+    let mut line = [0u8; LINE];
+    let end = report::put_load(loaded.refusal, loaded.place, 0, &mut line);
+    console::write(&line, end);
 }
 
+// No note is as long as the most room; the test is for the prover.
 fn show_note(file: &[u8], number: u32) {
-    write(b"note");
-    write_bytes(wpl::note(file, number as usize));
+    let note = wpl::note(file, number as usize);
+    let mut line = [0u8; LINE];
+    if note.len() <= MOST_ROOM {
+        let end = report::put_note(note, 0, &mut line);
+        console::write(&line, end);
+    }
 }
 
 // The `ensures` gives the length, which lending the array asks.
@@ -65,6 +60,15 @@ fn blank() -> [u8; MOST_ROOM]
     ensures { λ r. ⌜ 8192 ≡ length r ⌝ }
 {
     [BLANK; MOST_ROOM]
+}
+
+// The room is no longer than the most; the test is for the prover.
+fn show_written(written: Written, room: &[u8]) {
+    let mut line = [0u8; LINE];
+    if room.len() <= MOST_ROOM {
+        let end = report::put_written(written, room, 0, &mut line);
+        console::write(&line, end);
+    }
 }
 
 fn show_write(file: &[u8], version: u32, room: usize) {
@@ -75,13 +79,9 @@ fn show_write(file: &[u8], version: u32, room: usize) {
         let whole: &mut [u8] = &mut space;
         let buffer = &mut whole[..room];
         let written = wpl::write(state, version, buffer);
-        write(b"write ");
-        console::write_refusal(written.refusal, written.place);
-        write(b" length ");
-        write_decimal(written.length as u64);
-        write_bytes(buffer);
+        show_written(written, buffer);
     } else {
-        write(b"room over 8192\n");
+        say(b"room over 8192\n");
     }
 }
 
@@ -93,7 +93,7 @@ fn show(letter: u8, number: u32, room: u16, file: &[u8]) {
     } else if letter == WRITE {
         show_write(file, number, room as usize);
     } else {
-        write(b"no such question\n");
+        say(b"no such question\n");
     }
 }
 
@@ -106,7 +106,7 @@ fn show_all(questions: &[u8])
         let from = at + HEAD;
         let size = records::u16_at(questions, at + SIZE) as usize;
         if questions.len() - from < size {
-            write(b"question cut short\n");
+            say(b"question cut short\n");
             return;
         }
         let to = from + size;

@@ -1,13 +1,10 @@
 // Flies a list of fixes from a plan file, a line for each fix: fly READER PLAN FIXES. A fix is 16 bytes, big-endian: the serial that it names,
 // then north, east and down as the bits of an f32. FIXES is read in chunks; the first is flown from the plan, each later one from the state
 // before it.
-use console::float;
-use console::write;
-use console::write_decimal;
 use flight::Flown;
-use libc::STDERR_FILENO;
 use manager::State;
 use records::u32_at;
+use text::float;
 ghost use mathlib.Core.Path.{_≡_};
 ghost use Prim.Native.Nat.{_+_, _*_, _≤_, _<_};
 ghost use lib.ListN.{length};
@@ -50,29 +47,8 @@ const COMMANDS: usize = 1536;
 // More fixes than any file has: a proved loop has to end.
 const MOST_FIXES: u64 = 1152921504606846976;
 
-// The words of an answer, in the order of c_answer::put_answer.
-const REFUSAL: usize = 0;
-
-const PLACE: usize = 1;
-
-const KIND: usize = 2;
-
-const SENSE: usize = 3;
-
-const HEADING: usize = 4;
-
-const INDEX: usize = 5;
-
-const PHASE: usize = 6;
-
-const FINISHED: usize = 7;
-
-// The kinds of command, and how many numbers a circle has.
-const LINE: u32 = 1;
-
-const CIRCLE: u32 = 2;
-
-const CIRCLE_NUMBERS: usize = 4;
+// Room for a line that is no fix's.
+const LINE: usize = 64;
 
 enum Parsed {
     Number(u32),
@@ -105,7 +81,7 @@ struct Next {
 }
 
 fn complain(text: &[u8]) {
-    io::write_all(STDERR_FILENO, text);
+    console::complain(text, text.len());
 }
 
 // The value of a digit, TEN for any other byte.
@@ -221,59 +197,21 @@ fn unpack_positions(bytes: &[u8], count: usize, positions: &mut [f32])
     }
 }
 
-fn write_field(name: &[u8], value: u32) {
-    write(name);
-    write_decimal(value as u64);
-}
-
-// The first numbers, a space before each.
-fn write_floats(numbers: &[f32], count: usize)
-    requires { ⌜ count ≤ length (now numbers) ⌝ }
-{
-    let mut i: usize = 0;
-    while i < count {
-        write(b" ");
-        console::write_float(numbers[i]);
-        i += 1;
-    }
-}
-
-fn write_command(kind: u32, sense: u32, numbers: &[f32])
-    requires { ⌜ 6 ≤ length (now numbers) ⌝ }
-{
-    if kind == LINE {
-        write(b" line");
-        write_floats(numbers, c_answer::COMMAND);
-    } else if kind == CIRCLE {
-        write(b" circle");
-        write_floats(numbers, CIRCLE_NUMBERS);
-        if sense == 1 {
-            write(b" sense 1");
-        } else {
-            write(b" sense -1");
-        }
-    } else {
-        write(b" nothing");
-    }
-}
-
 // The line of a fix.
 fn show(number: u64, answer: &[u32], numbers: &[f32])
     requires { ⌜ (8 ≤ length (now answer)) × (6 ≤ length (now numbers)) ⌝ }
 {
-    write(b"fix ");
-    write_decimal(number);
-    if answer[REFUSAL] == 0 {
-        write_command(answer[KIND], answer[SENSE], numbers);
-        write_field(b" heading ", answer[HEADING]);
-    } else {
-        write_field(b" refused ", answer[REFUSAL]);
-        write_field(b" at ", answer[PLACE]);
-    }
-    write_field(b" index ", answer[INDEX]);
-    write_field(b" phase ", answer[PHASE]);
-    write_field(b" finished ", answer[FINISHED]);
-    write(b"\n");
+    let mut line = [0u8; report::FIX_ROOM];
+    let end = report::put_fix(number, answer, numbers, 0, &mut line);
+    console::write(&line, end);
+}
+
+// The line of a plan that is refused.
+fn show_refusal(refusal: u8, place: usize) {
+    let mut line = [0u8; LINE];
+    let last = text::put_refusal(refusal as u64, place as u64, 0, &mut line);
+    let end = text::put_byte(b'\n', last, &mut line);
+    console::write(&line, end);
 }
 
 // The lines of a chunk.
@@ -332,8 +270,7 @@ fn fly_shown(
     if flown.refusal == 0 {
         show_all(before.flown, count, answers, commands);
     } else {
-        console::write_refusal(flown.refusal, flown.place);
-        write(b"\n");
+        show_refusal(flown.refusal, flown.place);
     }
     flown
 }
@@ -388,9 +325,11 @@ fn tell_cut(name: &[u8], filled: Filled, flown: u64)
         return;
     }
     complain(name);
-    complain(b": fix ");
-    io::print_decimal(STDERR_FILENO, flown + (filled.count / FIX) as u64 + 1);
-    complain(b" is cut short\n");
+    let mut line = [0u8; LINE];
+    let number = flown + (filled.count / FIX) as u64 + 1;
+    let last = text::put_count(b": fix ", number, 0, &mut line);
+    let end = text::put_text(b" is cut short\n", last, &mut line);
+    console::complain(&line, end);
 }
 
 // Reads a chunk and flies it.

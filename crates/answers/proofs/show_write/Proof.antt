@@ -23,32 +23,14 @@ slice-aggregate-buffer c =
 write-requires : tie.Need-write-requires
 write-requires c κs = search needs
 
-slice-aggregate-write : tie.Need-slice-aggregate-write
-slice-aggregate-write c = search needs
+show-written-requires : tie.Need-show-written-requires
+show-written-requires c κs = search needs
 
-write-requires-2 : tie.Need-write-requires-2
-write-requires-2 c κs = search needs
+slice-aggregate-say : tie.Need-slice-aggregate-say
+slice-aggregate-say c = search needs
 
-write-refusal-requires : tie.Need-write-refusal-requires
-write-refusal-requires c κs = search needs
-
-slice-aggregate-write-2 : tie.Need-slice-aggregate-write-2
-slice-aggregate-write-2 c = search needs
-
-write-requires-3 : tie.Need-write-requires-3
-write-requires-3 c κs = search needs
-
-write-decimal-requires : tie.Need-write-decimal-requires
-write-decimal-requires c κs = search needs
-
-write-bytes-requires : tie.Need-write-bytes-requires
-write-bytes-requires c κs = search needs
-
-slice-aggregate-write-3 : tie.Need-slice-aggregate-write-3
-slice-aggregate-write-3 c = search needs
-
-write-requires-4 : tie.Need-write-requires-4
-write-requires-4 c κs = search needs
+say-requires : tie.Need-say-requires
+say-requires c κs = search needs
 
 returns : tie.Need-returns
 returns c = search needs
@@ -65,14 +47,8 @@ show-write-spec =
     slice-aggregate-whole
     slice-aggregate-buffer
     write-requires
-    slice-aggregate-write
-    write-requires-2
-    write-refusal-requires
-    slice-aggregate-write-2
-    write-requires-3
-    write-decimal-requires
-    write-bytes-requires
-    slice-aggregate-write-3
-    write-requires-4
+    show-written-requires
+    slice-aggregate-say
+    say-requires
     returns
     returns-2)

@@ -24,14 +24,8 @@ show-all-requires c κs =
     let s = f .before .before .before .before .before .before .before .before .before .before in
     (s .pre .0, (omega (arith, s .pre .1 .1 .0, f .fly-lists .kept .1 .1 .1 .1 .0), omega (arith, s .pre .1 .1 .1, f .fly-lists .kept .1 .1 .1 .1 .1 .0)))
 
-write-refusal-requires : tie.Need-write-refusal-requires
-write-refusal-requires c κs = search needs
-
-slice-aggregate-write : tie.Need-slice-aggregate-write
-slice-aggregate-write c = search needs
-
-write-requires : tie.Need-write-requires
-write-requires c κs = search needs
+show-refusal-requires : tie.Need-show-refusal-requires
+show-refusal-requires c κs = search needs
 
 same-length : tie.Need-same-length
 same-length c = search needs
@@ -60,9 +54,7 @@ fly-shown-spec =
     slice-aggregate-fly-lists-2
     fly-lists-requires
     show-all-requires
-    write-refusal-requires
-    slice-aggregate-write
-    write-requires
+    show-refusal-requires
     same-length
     same-length-2
     returns

@@ -1,0 +1,3 @@
+pub mod ListingLaws
+pub mod FixLaws
+pub mod HoldsLaws

@@ -1,0 +1,43 @@
+-- The line of a fix, of its answer's eight words and its command's six numbers (c_answer/specs/Words): its number, the command with the bits of
+-- its floats and the heading, or the refusal, and what the next state is at. Assumes nothing.
+use mathlib.Core.List.{List, [], _++_}
+use Prim.Native.Nat.{ℕ, zero, suc}
+use lib.Dec.{eqb}
+use lib.ListN.{getD}
+use lib.Ieee.{Float, nan}
+use Rattle.integers.specs.Choose.{choose}
+use Rattle.text.specs.Ascii.{ascii}
+use Rattle.text.specs.Parts.{countText, floatText, refusalText}
+use Rattle.report.specs.Listing.{newline, space}
+
+-- the first numbers, a space before each
+unfoldable pub floatsTo : List Float → ℕ → List ℕ
+floatsTo numbers zero = []
+floatsTo numbers (suc i) = floatsTo numbers i ++ (space ++ floatText (getD numbers i nan))
+
+-- +1 for clockwise
+unfoldable pub senseText : ℕ → List ℕ
+senseText sense = choose (eqb sense 1) (ascii " sense 1") (ascii " sense -1")
+
+-- kind 1: "a line (start, direction)"; 2: "a circle (centre, radius, sense ..)"; 0: none
+unfoldable pub commandText : ℕ → ℕ → List Float → List ℕ
+commandText kind sense numbers =
+    choose (eqb kind 1) (ascii " line" ++ floatsTo numbers 6)
+    (choose (eqb kind 2) (ascii " circle" ++ (floatsTo numbers 4 ++ senseText sense)) (ascii " nothing"))
+
+abbrev pub wordAt : List ℕ → ℕ → ℕ
+wordAt answer i = getD answer i 0
+
+unfoldable pub guidedText : List ℕ → List Float → List ℕ
+guidedText answer numbers =
+    choose (eqb (wordAt answer 0) 0)
+    (commandText (wordAt answer 2) (wordAt answer 3) numbers ++ countText (ascii " heading ") (wordAt answer 4))
+    (space ++ refusalText (wordAt answer 0) (wordAt answer 1))
+
+unfoldable pub progressText : List ℕ → List ℕ
+progressText answer =
+    countText (ascii " index ") (wordAt answer 5)
+    ++ (countText (ascii " phase ") (wordAt answer 6) ++ (countText (ascii " finished ") (wordAt answer 7) ++ newline))
+
+unfoldable pub fixText : ℕ → List ℕ → List Float → List ℕ
+fixText number answer numbers = countText (ascii "fix ") number ++ (guidedText answer numbers ++ progressText answer)

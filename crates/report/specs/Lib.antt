@@ -1,0 +1,4 @@
+pub mod Listing
+pub mod Fix
+pub mod Answers
+pub mod Holds

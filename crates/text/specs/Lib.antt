@@ -1,0 +1,5 @@
+pub mod Ascii
+pub mod Digits
+pub mod Written
+pub mod Parts
+pub mod Holds
