@@ -71,7 +71,7 @@ signedBearingOf v = signedOf (bearingOf v)
 
 -- ---- what the functions promise
 
--- t is how many of the first quarter's edges (a, b) has reached
+-- for proofs alone: t is how many of the first quarter's edges (a, b) has reached
 pub record Reached (a b t : ℕ) : Type 0 where
   pub most : t ≤ 1024
   pub from : 1 ≤ t → edgeEast t * a ≤ edgeNorth t * b

@@ -25,7 +25,7 @@ scaledSine x = 16384 * x * series 16 2 (x * x / unit)
 unfoldable pub sineOf : ℕ → ℕ
 sineOf k = (scaledSine (k * arc) + unit * unit / 2) / (unit * unit)
 
--- that a list has S[k] at every k
+-- for proofs alone: that a list has S[k] at every k
 abbrev pub Sines : List ℕ → Type 0
 Sines xs = (k : ℕ) → k ≤ 1024 → getD xs k 0 ≡ sineOf k
 

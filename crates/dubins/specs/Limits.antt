@@ -16,7 +16,7 @@ pub record IsEnds (ends : Ends) : Type 0 where
   pub arrive : ends .arrive < 4096
   pub radius : ends .radius ≤ 10000
 
--- a centre lies a radius from its point
+-- for proofs alone: a centre lies a radius from its point
 pub record IsCircles (c : Circles) : Type 0 where
   pub start : Near 510000 (c .start)
   pub end : Near 510000 (c .end)

@@ -1,5 +1,5 @@
--- What `shortest_path` works with, tied to Cases and Choice: both centres at an end, and a path without z1 and z2. No contract of a public
--- function cites it. Assumes nothing.
+-- What `shortest_path` works with, tied to Cases and Choice: both centres at an end, and a path without z1 and z2. For proofs alone:
+-- no contract of a public function cites it. Assumes nothing.
 use mathlib.Core.Path.{_≡_}
 use mathlib.Core.Bool.{true, false}
 use Prim.Native.Nat.{ℕ, _≤_, _<_}

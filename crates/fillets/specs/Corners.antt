@@ -59,7 +59,7 @@ cornerOf before point after R =
     roundedOf (levelOf point) (bearingOf (levelLegOf before point)) (bearingOf (levelLegOf point after))
     (rightOf (levelLegOf before point) (levelLegOf point after)) R (tangentOf R (turnOf before point after))
 
--- worked out by hand: the steepest turn of the widest radius, and at (1000,0), from north to west, a corner of tangent length 100 and R 200
+-- for proofs alone, worked out by hand: the steepest turn of the widest radius, and at (1000,0), from north to west, a corner of tangent length 100 and R 200
 pub record HandCorners : Type 0 where
   pub steepest : tangentOf 10000 1792 ≡ 50280
   pub corner :

@@ -56,12 +56,12 @@ HasCommand (Line start direction) = Unit {0}
 HasCommand (Circle centre radius sense) = Unit {0}
 HasCommand Nothing = ⊥
 
--- both
+-- for proofs alone: both
 pub record IsCommand (c : Command) : Type 0 where
   pub there : HasCommand c
   pub plain : PlainCommand c
 
--- what these are, said from outside: each number of a line and of a circle is plain, and Nothing is no command
+-- for proofs alone, what these are, said from outside: each number of a line and of a circle is plain, and Nothing is no command
 pub record CommandMeans : Type 0 where
   pub metres : (m : Metres) → PlainMetres m → Plain (m .north) × (Plain (m .east) × Plain (m .down))
   pub line : (start direction : Metres) → PlainCommand (Line start direction) → PlainMetres start × PlainMetres direction

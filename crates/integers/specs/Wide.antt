@@ -8,6 +8,7 @@ use Rattle.integers.specs.declared.Triple.{Triple}
 abbrev pub base : ℕ
 base = 4398046511104
 
+-- ---- numbers of two and of three digits, and products; for proofs alone
 abbrev pub wideOf : Wide → ℕ
 wideOf w = w .high * base + w .low
 

@@ -20,7 +20,7 @@ pointsAt points i = getD points i noPoint
 abbrev pub coursesAt : List ℕ → ℕ → ℕ
 coursesAt courses i = getD courses i 0
 
--- where no point has one
+-- where no point has one; for proofs alone
 abbrev pub noCourse : ℕ → ℕ
 noCourse i = 0
 
@@ -58,10 +58,11 @@ numbersOf p = p .norths ++ (p .easts ++ (p .downs ++ p .courses))
 abbrev pub planNumbers : ℕ
 planNumbers = 4 * mostPoints
 
+-- the numbers of one kind; for proofs alone
 abbrev pub block : ℕ → List ℤ → List ℤ
 block k numbers = take mostPoints (drop (k * mostPoints) numbers)
 
--- the plan of a head and of all numbers one after another
+-- the plan of a head and of all numbers one after another; for proofs alone
 abbrev pub plannedIn : Head → List ℤ → Plan
 plannedIn h numbers = seen h (block 0 numbers) (block 1 numbers) (block 2 numbers) (block 3 numbers)
 

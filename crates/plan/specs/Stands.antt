@@ -70,7 +70,7 @@ pub record IsCourse (χ : ℤ) : Type 0 where
 abbrev pub Aimed : Plan → Type 0
 Aimed p = (i : ℕ) → i < mostPoints → IsCourse (numberAt (p .courses) i)
 
--- 11 has passed a plan of fillets
+-- 11 has passed a plan of fillets; for proofs alone
 abbrev pub Turns : Plan → Type 0
 Turns p = (i : ℕ) → 1 ≤ i → i + 1 < p .head .count → turnOf (pointOf p (i - 1)) (pointOf p i) (pointOf p (i + 1)) ≤ mostTurn
 
@@ -86,12 +86,12 @@ pub record There (norths easts downs : List ℤ) (i : ℕ) : Type 0 where
   pub east : i < length easts
   pub down : i < length downs
 
--- and its point lies in the area
+-- and its point lies in the area; for proofs alone
 pub record Placed (norths easts downs : List ℤ) (i : ℕ) : Type 0 where
   pub there : There norths easts downs i
   pub area : InArea (placeAt norths easts downs i)
 
--- what the leg from a to b is in north and east
+-- what the leg from a to b is in north and east; for proofs alone
 pub record IsLevelLeg (a b : Point) (leg : LevelLeg) : Type 0 where
   pub bearing : leg .bearing ≡ bearingOf (levelLegOf a b)
   pub below : leg .bearing < courses
@@ -101,11 +101,12 @@ pub record Aiming (courses : List ℤ) (i : ℕ) : Type 0 where
   pub there : i < length courses
   pub course : IsCourse (numberAt courses i)
 
--- once 8 has passed
+-- once 8 has passed; for proofs alone
 pub record Counted (norths easts downs : List ℤ) (n : ℕ) : Type 0 where
   pub placed : (i : ℕ) → i < n → Placed norths easts downs i
   pub least : fewestPoints ≤ n
 
+-- what the rules may rely on; for proofs alone
 pub record Fit (R n : ℕ) (norths easts downs courses : List ℤ) : Type 0 where
   pub counted : Counted norths easts downs n
   pub radius : R ≤ mostRadius
@@ -118,7 +119,7 @@ pub record Long (norths easts downs courses : List ℤ) : Type 0 where
   pub down : mostPoints ≤ length downs
   pub course : mostPoints ≤ length courses
 
--- fillets: each corner's turn; Dubins: each course, and a case for each leg
+-- fillets: each corner's turn; Dubins: each course, and a case for each leg; for proofs alone
 abbrev pub ByMode : Mode → Plan → Type 0
 ByMode Lines p = Unit {0}
 ByMode Fillets p = (p .head .radius ≤ mostRadius) × Turns p

@@ -28,7 +28,7 @@ halfPlane x y A B =
     (choose (leZ (pos 0) y) true (leb (squareTimes y A) (squareTimes x B)))
     (choose (leZ (pos 0) y) (leb (squareTimes x B) (squareTimes y A)) false)
 
--- worked out by hand, with legs of 1,000 and 2,000: behind both, at the boundary on either side, and just short of it
+-- for proofs alone, worked out by hand, with legs of 1,000 and 2,000: behind both, at the boundary on either side, and just short of it
 pub record HandHalves : Type 0 where
   pub behind : halfPlane (negsuc 0) (negsuc 0) 1000000 4000000 ≡ false
   pub before : halfPlane (negsuc 999) (pos 2000) 1000000 4000000 ≡ true

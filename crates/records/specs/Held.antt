@@ -18,7 +18,7 @@ use Rattle.records.specs.Kinds.{Parts, noParts, withPoint, withRadius, w
 abbrev pub counted : ℕ → ℕ
 counted n = min (mostPoints + 1) n
 
--- the parts without the points and courses themselves
+-- the parts without the points and courses themselves; for proofs alone
 unfoldable pub tallyOf : Parts → Tally
 tallyOf a =
     record {
@@ -28,7 +28,7 @@ tallyOf a =
       follows = a .atPoint;
     }
 
--- what an effect makes of the parts before it
+-- what an effect makes of the parts before it; for proofs alone
 unfoldable pub verdictOf : Parts → Effect → Verdict
 verdictOf a Nothing = takes a
 verdictOf a (AddPoint p) = takes (withPoint a p)

@@ -1,4 +1,5 @@
--- "the nearest decimetre worked out from the float's bits": the fields of an f32's pattern, and the size that they stand for. Assumes nothing.
+-- "the nearest decimetre worked out from the float's bits": the fields of an f32's pattern, and the size that they stand for. For
+-- proofs alone. Assumes nothing.
 use Prim.Native.Nat.{ℕ, zero, suc, _+_, _*_, _/_, _%_, _^_}
 use Rattle.units.specs.Decimetres.{nearestQuotient}
 

@@ -54,7 +54,7 @@ unfoldable pub loadedOf : Outcome State → Loaded
 loadedOf (good s) = record { refusal = 0; place = 0; state = s }
 loadedOf (refused number place) = record { refusal = number; place = place; state = emptyState }
 
--- what the records give beside the numbers
+-- what the records give beside the numbers; for proofs alone
 abbrev pub headFrom : ℕ → Gathered → Head
 headFrom serial g = record { serial = serial; mode = modeOf (g .radius) (g .given); radius = g .radius; count = g .count }
 

@@ -30,7 +30,7 @@ noteIn n (more k b w) = choose (wantedOf k n) b (noteIn (leftOf k n) w)
 unfoldable pub noteOf : List ℕ → ℕ → List ℕ
 noteOf f n = choose (isGood (loadOf newest f)) (noteIn n (recordsOf f)) []
 
--- ---- by offsets, as the code finds it
+-- ---- by offsets, as the code finds it; for proofs alone
 abbrev pub Within : Span → ℕ → Type 0
 Within Nothing n = Unit {0}
 Within (At start stop) n = (start ≤ stop) × (stop ≤ n)
