@@ -29,7 +29,7 @@ returns : tie.Need-returns
 returns c =
     let p = c .before .before .put-bytes in
     let a = c .before .before .before .before .before .before .args in
-    copied (a .at) (a .text .now) (a .buffer .now) _ (omega arith) (lent (a .at) (a .text .now) (a .buffer .now) (p .last .1 .0) (p .ensures))
+    copied (a .at) (a .text .now) (a .buffer .now) _ (omega arith) (lent (a .at) (a .text .now) (a .buffer .now) (p .last .1 .0) (p .ensures .0))
 
 pub put-text-spec : {M : Type 1} → statement M
 put-text-spec =
