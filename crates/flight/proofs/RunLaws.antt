@@ -10,7 +10,7 @@ use Rattle.manager.specs.declared.State.{State}
 use Rattle.manager.specs.declared.Stepped.{Stepped}
 use Rattle.manager.specs.State.{validOf}
 use Rattle.manager.specs.Flies.{Flies}
-use Rattle.manager.proofs.FliesLaws.{step-promise}
+use Rattle.manager.proofs.FliesLaws.{flies}
 use Rattle.flight.specs.Run.{Named, stepBy, run, Chain, none, next, Alike, AlikeRuns, ended, onward, Answered, PlainRun}
 
 -- ---- the only chain
@@ -50,7 +50,7 @@ alike-runs s t e xs = subst (λ (u : State). AlikeRuns (run s xs) (run u xs)) e 
 
 -- ---- each step's laws along the run
 flies-by : (s : State) (x : Named) → Flies s (x .serial) (x .fix) (stepBy s x)
-flies-by s x = step-promise s (x .serial) (x .fix) refl .1 .1
+flies-by s x = flies s (x .serial) (x .fix)
 
 pub answered-run : (s : State) (n : ℕ) → validOf s ≡ true → s .plan .head .serial ≡ n → (xs : List Named) → Answered n xs (run s xs)
 unfolding run

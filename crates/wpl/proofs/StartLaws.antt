@@ -3,15 +3,18 @@ use mathlib.Core.Path.{_≡_, sym, ap, subst, _∙_}
 use mathlib.Core.Bool.{true}
 use mathlib.Core.List.{List}
 use Prim.Native.Nat.{ℕ}
+use Rattle.refusals.specs.Numbers.{noState}
 use Rattle.refusals.specs.Outcome.{Outcome, good, refused, isGood}
 use Rattle.refusals.specs.Sweep.{Done}
 use Rattle.refusals.proofs.OutcomeLaws.{then-means}
 use Rattle.plan.specs.Loaded.{planOf, Loads}
 use Rattle.plan.proofs.LoadedLaws.{loaded-stands}
+use Rattle.units.specs.declared.Fix.{Fix}
 use Rattle.manager.specs.declared.State.{State}
 use Rattle.manager.specs.State.{emptyState, startOf, validOf}
-use Rattle.manager.specs.Flies.{Empty}
-use Rattle.manager.proofs.StartLaws.{started-valid, empty-invalid, empty-is}
+use Rattle.manager.specs.Step.{refuseOf, stepOf}
+use Rattle.manager.proofs.StartLaws.{started-valid, empty-refused}
+use Rattle.manager.proofs.EmptyLaws.{empty-invalid}
 use Rattle.records.specs.Kinds.{Parts, noParts}
 use Rattle.records.specs.Gather.{headerLength, InRange}
 use Rattle.records.proofs.GatherLaws.{gather-ranged, none-ranged}
@@ -69,10 +72,10 @@ module _ (r : ℕ) (f : List ℕ) (number place : ℕ) (refuses : loadOf r f ≡
   unfolding loadedOf
   none-left = ap (λ (o : Outcome State). loadedOf o .state) refuses
 
-  none-flown : Empty (loadedOf (loadOf r f) .state)
-  none-flown = subst Empty (sym none-left) empty-is
+  none-flown : (serial : ℕ) (fix : Fix) → stepOf (loadedOf (loadOf r f) .state) serial fix ≡ refuseOf (loadedOf (loadOf r f) .state) noState
+  none-flown serial fix = subst (λ (t : State). stepOf t serial fix ≡ refuseOf t noState) (sym none-left) (empty-refused serial fix)
 
-  none-written : (version room : ℕ) → writeOf (loadedOf (loadOf r f) .state) version room ≡ refused 14 0
+  none-written : (version room : ℕ) → writeOf (loadedOf (loadOf r f) .state) version room ≡ refused noState 0
   none-written version room = ap (λ (t : State). writeOf t version room) none-left ∙ not-valid emptyState version room empty-invalid
 
 pub starts : (reader : ℕ) (file : List ℕ) → Starts reader file
@@ -80,7 +83,7 @@ starts reader file =
     record {
       valid = load-valid reader file;
       serial = load-serial reader file;
-      empty = none-flown reader file;
+      unflown = none-flown reader file;
       unwritten = none-written reader file;
       long = λ n h k. long-file file n h k reader;
     }

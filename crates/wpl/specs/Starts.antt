@@ -6,9 +6,10 @@ use Prim.Native.Nat.{ℕ, _+_, _≤_, _<_}
 use lib.ListN.{length, take}
 use Rattle.refusals.specs.Numbers.{noState}
 use Rattle.refusals.specs.Outcome.{good, refused}
+use Rattle.units.specs.declared.Fix.{Fix}
 use Rattle.manager.specs.declared.State.{State}
 use Rattle.manager.specs.State.{validOf}
-use Rattle.manager.specs.Flies.{Empty}
+use Rattle.manager.specs.Step.{refuseOf, stepOf}
 use Rattle.records.specs.Gather.{headerLength}
 use Rattle.wpl.specs.Header.{mostArea, serialOf}
 use Rattle.wpl.specs.Load.{loadOf, loadedOf}
@@ -19,7 +20,8 @@ pub record Starts (reader : ℕ) (file : List ℕ) : Type 0 where
   pub valid : (s : State) → loadOf reader file ≡ good s → validOf s ≡ true
   pub serial : (s : State) → loadOf reader file ≡ good s → s .plan .head .serial ≡ serialOf file
   -- what a refused load gives is the empty state, which every fix and every write refuses with 14
-  pub empty : (number place : ℕ) → loadOf reader file ≡ refused number place → Empty (loadedOf (loadOf reader file) .state)
+  pub unflown : (number place : ℕ) → loadOf reader file ≡ refused number place → (serial : ℕ) (fix : Fix)
+      → stepOf (loadedOf (loadOf reader file) .state) serial fix ≡ refuseOf (loadedOf (loadOf reader file) .state) noState
   pub unwritten : (number place : ℕ) → loadOf reader file ≡ refused number place → (version room : ℕ)
       → writeOf (loadedOf (loadOf reader file) .state) version room ≡ refused noState 0
   -- a file that is too long is refused like its first bytes: a reader need not take in more than one byte over the most that a file can have

@@ -33,7 +33,10 @@ step-requires : tie.Need-step-requires Inv-loop μ-loop
 step-requires c κs = search needs
 
 mul-put-answer-at : tie.Need-mul-put-answer-at Inv-loop μ-loop
-mul-put-answer-at c = let f = fits-means _ _ _ _ (c .before .before .before .before .before .before .before .before .before .before .pre) in omega (arith, f .answers)
+mul-put-answer-at c =
+    let w = c .before .before .before .before in
+    let f = fits-means _ _ _ _ (w .before .before .before .before .before .before .pre) in
+    omega (arith, f .answers, w .loop-test .taken)
 
 put-answer-at-requires : tie.Need-put-answer-at-requires Inv-loop μ-loop
 put-answer-at-requires c κs =
