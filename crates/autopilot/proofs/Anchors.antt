@@ -74,8 +74,9 @@ unfolding choose check andThen isGood sweep both every cross legOf minus levelLe
 in-numbers = (
   record {
     loaded = refl;
-    one = λ alike. alike 1 example ones ones (inl refl) (all-bytes example refl) refl refl refl refl .equal;
-    two = λ alike. alike 2 example ones ones (inr refl) (all-bytes example refl) refl refl refl refl .equal;
+    in-bytes = all-bytes example refl;
+    one = λ alike. alike 1 example ones ones (inl refl) refl refl refl refl .equal;
+    two = λ alike. alike 2 example ones ones (inr refl) refl refl refl refl .equal;
     replied = refl;
     ended = refl;
     none = refl;

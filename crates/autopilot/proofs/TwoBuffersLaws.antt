@@ -55,21 +55,21 @@ loaded-held f bytes b s h =
     load-holds true 3 f b (loadedBy 3 f b) (serialOf f) (serial-word f bytes) (sym (loaded-serial 3 f s h) ∙ sym e) refl .loaded refl s h
 
 pub alike-buffers : AlikeBuffers
-alike-buffers r f a b older bytes la lb n m =
+alike-buffers r f a b older la lb n m =
     let e : loadedBy r f a ≡ loadedBy 3 f b =
     words-are r f a n la
     ∙ ap (λ (s : State). stateWords s ++ []) (same-state f _ (state-of 3 f m) r older _ (state-of r f n))
     ∙ sym (words-are 3 f b m lb) in
     record {
-      held = λ s h. loaded-held f bytes b s h;
+      held = λ bytes s h. loaded-held f bytes b s h;
       equal = e;
       replied = λ cs. ap (λ (ws : List ℤ). replies ws cs) e;
       stay = λ cs. ap (λ (ws : List ℤ). wordsInTheEnd ws cs) e;
     }
 
 pub buffers-fly : BuffersFly
-buffers-fly r f a b two s h =
-    let three = two .held s h in
+buffers-fly r f a b two bytes s h =
+    let three = two .held bytes s h in
     record {
       held = subst (λ (ws : List ℤ). Hold ws s) (sym (two .equal)) three;
       replied = λ cs. two .replied cs ∙ calls-run .replied (loadedBy 3 f b) s three cs;

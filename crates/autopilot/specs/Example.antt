@@ -15,7 +15,7 @@ use Rattle.wpl.specs.Load.{loadedOf}
 use Rattle.autopilot.specs.Calls.{loadFits, fixFits, writeFits, loadResult, loadState, loadAnswer, writeFile, writeAnswer}
 use Rattle.autopilot.specs.Held.{LoadHolds, FixHolds}
 use Rattle.autopilot.specs.CallList.{Call, fix, write, Reply, fixed, written, replies, wordsInTheEnd}
-use Rattle.autopilot.specs.TwoBuffers.{loadedBy, AlikeBuffers}
+use Rattle.autopilot.specs.TwoBuffers.{loadedBy, AreBytes, AlikeBuffers}
 
 -- 57 50 4C 00 01 00 00 00 07 00 2A, and three points
 abbrev pub example : List ℕ
@@ -90,6 +90,7 @@ numbers n = replicate n (float 0)
 pub record Example : Type 0 where
   pub loaded : loadedBy 3 example ones ≡ wordsAt (pos 2) (pos 0)
   -- readers one and two are older ones, and this file and these buffers are among those that the law on two buffers speaks of
+  pub in-bytes : AreBytes example
   pub one : AlikeBuffers → loadedBy 1 example ones ≡ wordsAt (pos 2) (pos 0)
   pub two : AlikeBuffers → loadedBy 2 example ones ≡ wordsAt (pos 2) (pos 0)
   pub replied : replies (wordsAt (pos 2) (pos 0)) calls ≡ wanted

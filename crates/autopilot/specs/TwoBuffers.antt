@@ -24,21 +24,21 @@ loadedBy r f buffer = loadState true (loadedOf (loadOf r f)) buffer
 abbrev pub NotRefused : ℕ → List ℕ → Type 0
 NotRefused r f = loadResult true (loadedOf (loadOf r f)) ≡ 0
 
-pub record TwoBuffers (r : ℕ) (f : List ℕ) (a b : List ℤ) : Type 0 where
-  -- reader three's hold what it loads, so that their replies are those of its run
-  pub held : (s : State) → loadOf 3 f ≡ good s → Hold (loadedBy 3 f b) s
-  pub equal : loadedBy r f a ≡ loadedBy 3 f b
-  pub replied : (cs : List Call) → replies (loadedBy r f a) cs ≡ replies (loadedBy 3 f b) cs
-  pub stay : (cs : List Call) → wordsInTheEnd (loadedBy r f a) cs ≡ wordsInTheEnd (loadedBy 3 f b) cs
-
 -- what every slice of uint8_t is
 abbrev pub AreBytes : List ℕ → Type 0
 AreBytes f = (i : ℕ) → getD f i 0 < 256
 
+pub record TwoBuffers (r : ℕ) (f : List ℕ) (a b : List ℤ) : Type 0 where
+  -- reader three's hold what it loads, so that their replies are those of its run
+  pub held : AreBytes f → (s : State) → loadOf 3 f ≡ good s → Hold (loadedBy 3 f b) s
+  pub equal : loadedBy r f a ≡ loadedBy 3 f b
+  pub replied : (cs : List Call) → replies (loadedBy r f a) cs ≡ replies (loadedBy 3 f b) cs
+  pub stay : (cs : List Call) → wordsInTheEnd (loadedBy r f a) cs ≡ wordsInTheEnd (loadedBy 3 f b) cs
+
 -- for buffers of a state's words, whatever they held before
 abbrev pub AlikeBuffers : Type 0
 AlikeBuffers =
-    (r : ℕ) (f : List ℕ) (a b : List ℤ) → IsOlder r → AreBytes f → length a ≡ stateLength → length b ≡ stateLength → NotRefused r f → NotRefused 3 f → TwoBuffers r f a b
+    (r : ℕ) (f : List ℕ) (a b : List ℤ) → IsOlder r → length a ≡ stateLength → length b ≡ stateLength → NotRefused r f → NotRefused 3 f → TwoBuffers r f a b
 
 -- what it comes to for the older reader's buffer: it holds reader three's state, and flies as that state's run does
 pub record FliesAlike (r : ℕ) (f : List ℕ) (a : List ℤ) (s : State) : Type 0 where
@@ -47,4 +47,4 @@ pub record FliesAlike (r : ℕ) (f : List ℕ) (a : List ℤ) (s : State) : Type
   pub ended : (cs : List Call) → Hold (wordsInTheEnd (loadedBy r f a) cs) (lastOf s (run s (fixesOf cs)))
 
 abbrev pub BuffersFly : Type 0
-BuffersFly = (r : ℕ) (f : List ℕ) (a b : List ℤ) → TwoBuffers r f a b → (s : State) → loadOf 3 f ≡ good s → FliesAlike r f a s
+BuffersFly = (r : ℕ) (f : List ℕ) (a b : List ℤ) → TwoBuffers r f a b → AreBytes f → (s : State) → loadOf 3 f ≡ good s → FliesAlike r f a s

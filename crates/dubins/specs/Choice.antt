@@ -1,5 +1,6 @@
 -- Document 01: the shortest of a leg's cases, and the tests of refusals 12 and 17. Assumes nothing.
 use mathlib.Core.Path.{_≡_}
+use mathlib.Core.Logic.{_↔_}
 use mathlib.Core.Bool.{Bool, true, false, _||_}
 use Prim.Native.Nat.{ℕ, _*_, _≤_, _<_}
 use lib.Dec.{leb}
@@ -60,17 +61,13 @@ pub record Chosen (ends : Ends) (r : Found) : Type 0 where
   pub found : hasPathOf ends ≡ true → (p : Path) × (r ≡ Shortest p)
   pub missing : hasPathOf ends ≡ false → r ≡ Missing
 
--- one exactly where the other
-abbrev pub Exactly : Type 0 → Type 0 → Type 0
-Exactly A B = (A → B) × (B → A)
-
 -- "RSR and LSL exist when v ≠ 0"
 abbrev pub OuterWhen : Ends → ℕ → Type 0
-OuterWhen ends case = Exactly (caseExists ends case ≡ true) (circlesOf ends case .v ≡ plain 0 0 → ⊥)
+OuterWhen ends case = (caseExists ends case ≡ true) ↔ (circlesOf ends case .v ≡ plain 0 0 → ⊥)
 
 -- "RSL and LSR exist when v·v ≥ 4R²"
 abbrev pub InnerWhen : Ends → ℕ → Type 0
-InnerWhen ends case = Exactly (caseExists ends case ≡ true) (4 * ends .radius * ends .radius ≤ squareOf (circlesOf ends case .v))
+InnerWhen ends case = (caseExists ends case ≡ true) ↔ (4 * ends .radius * ends .radius ≤ squareOf (circlesOf ends case .v))
 
 -- when the cases of a leg exist; one does where its ends are three radii apart, and the radius is not 0
 pub record Existence (ends : Ends) : Type 0 where
