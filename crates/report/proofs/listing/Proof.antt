@@ -4,7 +4,6 @@ use Prim.Native.Nat.{_≤_}
 use native.Mathlib.Omega.{arith}
 use Rattle.text.proofs.WrittenLaws.{then}
 use Rattle.plan.specs.Limits.{mostPoints}
-use Rattle.records.specs.Kinds.{newest}
 use Rattle.wpl.specs.declared.Loaded.{Loaded}
 use Rattle.wpl.specs.Header.{versionOf}
 use Rattle.report.specs.Listing.{listingOf}
@@ -28,7 +27,7 @@ put-plan-requires : tie.Need-put-plan-requires
 put-plan-requires c κs =
     let l = c .before .before .before .before .before .before in
     let i = l .before in (
-      subst (λ (x : Loaded). x .state .plan .head .count ≤ mostPoints) (sym (l .load .ensures)) (loaded-few newest _ _ refl),
+      subst (λ (x : Loaded). x .state .plan .head .count ≤ mostPoints) (sym (l .load .ensures)) (loaded-few _ _ _ refl),
       omega arith,
     )
 
