@@ -24,7 +24,7 @@ const READERS: u64 = 4294967296;
 
 const TEN: u64 = 10;
 
-// One byte more than a file can have. A longer one is refused as its first bytes are (the law long-file of wpl).
+// One byte more than a file can have. A longer one is refused as its first bytes are (the promise of wpl::load).
 const MOST_PLAN: usize = 8204;
 
 // The bytes of a fix, and of its serial and of each of its numbers.

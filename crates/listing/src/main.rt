@@ -1,7 +1,7 @@
 // Lists the plan on standard input as the newest reader loads it, or says why it is refused (document 01, "Checked examples").
 use libc::STDIN_FILENO;
 
-// One byte more than a file can have. Longer input is refused as its first bytes are (the law long-file of wpl).
+// One byte more than a file can have. Longer input is refused as its first bytes are (the promise of wpl::load).
 const MOST: usize = 8204;
 
 fn main() {

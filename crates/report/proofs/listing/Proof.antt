@@ -27,7 +27,7 @@ put-plan-requires : tie.Need-put-plan-requires
 put-plan-requires c κs =
     let l = c .before .before .before .before .before .before in
     let i = l .before in (
-      subst (λ (x : Loaded). x .state .plan .head .count ≤ mostPoints) (sym (l .load .ensures)) (loaded-few _ _ _ refl),
+      subst (λ (x : Loaded). x .state .plan .head .count ≤ mostPoints) (sym (l .load .ensures .0)) (loaded-few _ _ _ refl),
       omega arith,
     )
 
@@ -44,7 +44,7 @@ returns-2 c =
     let i = l .before in
     let s = i .before .before .before in
     whole (listingOf (s .args .file .now)) (s .args .buffer .now) (omega (arith, i .if1 .left)) (search needs)
-    (rw (← l .load .ensures, ← u .u16-at .ensures, text-loads (u .u16-at .result) (l .load .result) (k .if2 .taken)) (p .put-plan .ensures))
+    (rw (← l .load .ensures .0, ← u .u16-at .ensures, text-loads (u .u16-at .result) (l .load .result) (k .if2 .taken)) (p .put-plan .ensures))
 
 cast-put-refusal : tie.Need-cast-put-refusal
 cast-put-refusal c = search needs
@@ -68,7 +68,7 @@ returns-3 c =
     let i = l .before in
     let s = i .before .before .before in
     whole (listingOf (s .args .file .now)) (s .args .buffer .now) (omega (arith, i .if1 .left)) (search needs)
-    (rw (← l .load .ensures, text-refused (versionOf (s .args .file .now)) (l .load .result) (k .if2 .left))
+    (rw (← l .load .ensures .0, text-refused (versionOf (s .args .file .now)) (l .load .result) (k .if2 .left))
     (then (p .put-refusal .ensures .0 .0) (n .put-byte .ensures)))
 
 pub listing-spec : {M : Type 1} → statement M
