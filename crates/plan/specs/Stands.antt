@@ -70,7 +70,7 @@ pub record IsCourse (χ : ℤ) : Type 0 where
 abbrev pub Aimed : Plan → Type 0
 Aimed p = (i : ℕ) → i < mostPoints → IsCourse (numberAt (p .courses) i)
 
--- 11 has passed a plan of fillets; for proofs alone
+-- 11 has passed a plan of fillets
 abbrev pub Turns : Plan → Type 0
 Turns p = (i : ℕ) → 1 ≤ i → i + 1 < p .head .count → turnOf (pointOf p (i - 1)) (pointOf p i) (pointOf p (i + 1)) ≤ mostTurn
 
@@ -119,7 +119,7 @@ pub record Long (norths easts downs courses : List ℤ) : Type 0 where
   pub down : mostPoints ≤ length downs
   pub course : mostPoints ≤ length courses
 
--- fillets: each corner's turn; Dubins: each course, and a case for each leg; for proofs alone
+-- fillets: each corner's turn; Dubins: each course, and a case for each leg
 abbrev pub ByMode : Mode → Plan → Type 0
 ByMode Lines p = Unit {0}
 ByMode Fillets p = (p .head .radius ≤ mostRadius) × Turns p
