@@ -7,37 +7,28 @@ use mathlib.Core.Logic.{⊎-elim}
 use Prim.Native.Nat.{ℕ, _≤_, _<_}
 use native.Mathlib.Omega.{arith}
 use lib.IntN.{ℤ}
-use lib.ListN.{length}
 use Rattle.integers.specs.Choose.{choose}
 use Rattle.integers.proofs.ChooseLaws.{choose-true}
-use Rattle.refusals.specs.Outcome.{Outcome, good, refused, isGood}
-use Rattle.refusals.specs.Sweep.{Done}
+use Rattle.refusals.specs.Outcome.{Outcome, good, refused}
 use Rattle.refusals.proofs.Bools.{by-bool, clash}
-use Rattle.refusals.proofs.OutcomeLaws.{then-means}
 use Rattle.buffers.specs.Splice.{over}
 use Rattle.units.specs.declared.Fix.{Fix}
 use Rattle.plan.specs.declared.Mode.{Mode}
 use Rattle.plan.specs.declared.Mode.the-variants.{Lines, Fillets, Dubins}
 use Rattle.plan.specs.declared.Plan.{Plan}
-use Rattle.plan.specs.Limits.{mostPoints, mostRadius}
+use Rattle.plan.specs.Limits.{mostRadius}
 use Rattle.plan.specs.Places.{Filled}
-use Rattle.plan.specs.Loaded.{planOf}
-use Rattle.plan.proofs.RuleLaws.{rules-passed}
 use Rattle.manager.specs.declared.State.{State}
 use Rattle.manager.specs.declared.Stepped.{Stepped}
-use Rattle.manager.specs.State.{onLastLeg, lastPhase, emptyState, startOf, validOf}
+use Rattle.manager.specs.State.{onLastLeg, lastPhase, emptyState, validOf}
 use Rattle.manager.specs.Step.{refuseOf, stepOf}
 use Rattle.manager.proofs.StateLaws.{valid-means, index-most}
 use Rattle.manager.proofs.StepLaws.{step-14, step-plan, step-valid}
-use Rattle.records.specs.Kinds.{Parts, noParts}
-use Rattle.records.specs.Gather.{headerLength, InRange}
-use Rattle.records.proofs.GatherLaws.{gather-ranged, none-ranged}
 use Rattle.c_state.specs.Stored.{stateWords, Storable}
 use Rattle.c_state.proofs.StoredLaws.{empty-words, taken-back}
-use Rattle.wpl.specs.Header.{versionOf, serialOf}
-use Rattle.wpl.specs.Load.{recordsOf, partsOf, settleOf, rulesIn, finishOf, loadOf, loadedOf}
-use Rattle.wpl.proofs.LoadStepLaws.{load-steps}
-use Rattle.wpl.proofs.LoadLaws.{finish-makes, load-filled}
+use Rattle.wpl.specs.Load.{loadOf, loadedOf}
+use Rattle.wpl.proofs.LoadLaws.{load-filled}
+use Rattle.wpl.proofs.StartLaws.{load-parts, load-starts, load-valid}
 use Rattle.flight.specs.Run.{run}
 use Rattle.flight.specs.Flight.{lastOf}
 use Rattle.autopilot.specs.Calls.{loadState, fixWords, fixNumbers, fixNumber, fixNext}
@@ -47,37 +38,17 @@ use Rattle.autopilot.proofs.CallLaws.{from-state}
 
 -- ---- a loaded state: its radius and count are in their ranges, and its serial is a word's
 module _ (r : ℕ) (f : List ℕ) (s : State) (h : loadOf r f ≡ good s) where
-  parts : (a : Parts) × (InRange a × (finishOf (serialOf f) a ≡ good s))
-  unfolding partsOf settleOf
-  parts =
-      let x = load-steps r f s h in
-      let e : x .taken ≡ x .settled = let z = x .settles in cc in
-      (x .settled, (subst InRange e (gather-ranged r (versionOf f) (recordsOf f) headerLength noParts (x .taken) none-ranged (x .gathered)), x .finishes))
-
-  made : s ≡ startOf (planOf (serialOf f) (parts .0 .radius) (parts .0 .points) (parts .0 .courses))
-  made = finish-makes (serialOf f) (parts .0) s (parts .1 .1)
-
-  pub loaded-serial : s .plan .head .serial ≡ serialOf f
-  loaded-serial = ap (λ (t : State). t .plan .head .serial) made
-
-  few : length (parts .0 .points) ≤ mostPoints
-  unfolding finishOf rulesIn isGood
-  few =
-      let a = parts .0 in
-      let x = then-means (rulesIn a) (λ (_ : Done). good (startOf (planOf (serialOf f) (a .radius) (a .points) (a .courses)))) s (parts .1 .1) in
-      rules-passed _ _ _ _ _ _ (ap isGood (x .1 .0)) .most
-
-  small : parts .0 .radius ≤ mostRadius
-  small = ⊎-elim (λ z. omega arith) (λ k. k .1) (parts .1 .0 .radius)
+  small : load-parts r f s h .0 .radius ≤ mostRadius
+  small = ⊎-elim (λ z. omega arith) (λ k. k .1) (load-parts r f s h .1 .0 .radius)
 
   pub load-storable : s .plan .head .serial < 4294967296 → Storable s
   load-storable n =
       record {
         serial = n;
-        radius = let e = ap (λ (t : State). t .plan .head .radius) made in omega (arith, e, small);
-        count = let e = ap (λ (t : State). t .plan .head .count) made in omega (arith, e, few);
-        index = let e = ap (λ (t : State). t .progress .index) made in omega (arith, e);
-        phase = let e = ap (λ (t : State). t .progress .phase) made in omega (arith, e);
+        radius = let e = ap (λ (t : State). t .plan .head .radius) (load-starts r f s h) in omega (arith, e, small);
+        count = omega (arith, valid-means s (load-valid r f s h) .stands .most);
+        index = let e = ap (λ (t : State). t .progress .index) (load-starts r f s h) in omega (arith, e);
+        phase = let e = ap (λ (t : State). t .progress .phase) (load-starts r f s h) in omega (arith, e);
         filled = load-filled r f s h;
       }
 

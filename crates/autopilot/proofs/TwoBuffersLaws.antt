@@ -15,6 +15,7 @@ use Rattle.records.specs.Numbers.{u16At, u32At}
 use Rattle.wpl.specs.Header.{serialOf}
 use Rattle.wpl.specs.Load.{loadOf, loadedOf}
 use Rattle.wpl.proofs.LoadLaws.{loaded-good, load-filled}
+use Rattle.wpl.proofs.StartLaws.{load-serial}
 use Rattle.flight.specs.Run.{run}
 use Rattle.flight.specs.Flight.{lastOf}
 use Rattle.flight.proofs.OlderLaws.{same-state}
@@ -22,7 +23,7 @@ use Rattle.autopilot.specs.Calls.{loadResult, loadState}
 use Rattle.autopilot.specs.Held.{Hold}
 use Rattle.autopilot.specs.CallList.{replies, wordsInTheEnd, fixesOf}
 use Rattle.autopilot.specs.TwoBuffers.{loadedBy, NotRefused, AreBytes, AlikeBuffers, BuffersFly}
-use Rattle.autopilot.proofs.HeldLaws.{loaded-serial, load-holds, calls-run}
+use Rattle.autopilot.proofs.HeldLaws.{load-holds, calls-run}
 
 -- ---- the words of a loaded state fill a buffer of their number, since the plan that a file gives has whole arrays
 loaded-full : (r : ℕ) (f : List ℕ) (s : State) → loadOf r f ≡ good s → length (stateWords s) ≡ stateLength
@@ -52,7 +53,7 @@ loaded-held : (f : List ℕ) → AreBytes f → (b : List ℤ) (s : State) → l
 unfolding loadedOf
 loaded-held f bytes b s h =
     let e = ap (λ (o : Outcome State). loadedOf o .state .plan .head .serial) h in
-    load-holds true 3 f b (loadedBy 3 f b) (serialOf f) (serial-word f bytes) (sym (loaded-serial 3 f s h) ∙ sym e) refl .loaded refl s h
+    load-holds true 3 f b (loadedBy 3 f b) (serialOf f) (serial-word f bytes) (sym (load-serial 3 f s h) ∙ sym e) refl .loaded refl s h
 
 pub alike-buffers : AlikeBuffers
 alike-buffers r f a b older la lb n m =

@@ -1,18 +1,13 @@
 -- The lines of a plan, point by point; a loaded plan has no more points than there is room for; and where a listing ends up. Assumes nothing.
-use mathlib.Core.Path.{_≡_, refl, sym, ap, _∙_, subst}
-use mathlib.Core.Bool.{true, false}
+use mathlib.Core.Path.{_≡_, refl, sym, _∙_}
 use mathlib.Core.List.{List, _++_}
-use Prim.Native.Nat.{ℕ, suc, _+_, _*_, _≤_, _<_}
+use Prim.Native.Nat.{ℕ, _+_, _*_, _≤_, _<_}
 use native.Mathlib.Numerals.{add-one}
 use native.Mathlib.Omega.{arith}
-use lib.Dec.{leb, eqb}
 use lib.ListN.{length}
-use borrow.Author.Tests.{leb-true, le-leb, lt-leb, eq-eqb, ne-eqb}
-use Rattle.integers.specs.Choose.{choose}
+use borrow.Author.Tests.{le-leb, lt-leb, eq-eqb, ne-eqb}
 use Rattle.integers.proofs.ChooseLaws.{choose-true, choose-false}
 use Rattle.refusals.specs.Outcome.{Outcome, good, refused}
-use Rattle.refusals.specs.Sweep.{Done}
-use Rattle.refusals.proofs.OutcomeLaws.{check-means, then-means}
 use Rattle.buffers.specs.Splice.{over}
 use Rattle.buffers.proofs.SpliceLaws.{at-front}
 use Rattle.text.specs.Parts.{refusalText}
@@ -22,16 +17,11 @@ use Rattle.plane.specs.declared.Point.{Point}
 use Rattle.plan.specs.declared.Plan.{Plan}
 use Rattle.plan.specs.Limits.{mostPoints}
 use Rattle.plan.specs.Places.{pointOf, courseOf}
-use Rattle.plan.specs.Rules.{rulesOn}
-use Rattle.plan.specs.Loaded.{planOf}
 use Rattle.manager.specs.declared.State.{State}
-use Rattle.manager.specs.State.{startOf}
-use Rattle.records.specs.Kinds.{Parts}
+use Rattle.manager.proofs.StateLaws.{valid-means}
 use Rattle.wpl.specs.declared.Loaded.{Loaded}
-use Rattle.wpl.specs.Header.{serialOf}
-use Rattle.wpl.specs.Load.{rulesIn, finishOf, loadOf, loadedOf}
-use Rattle.wpl.proofs.LoadLaws.{finish-makes}
-use Rattle.wpl.proofs.LoadStepLaws.{load-steps}
+use Rattle.wpl.specs.Load.{loadOf, loadedOf}
+use Rattle.wpl.proofs.StartLaws.{load-valid}
 use Rattle.report.specs.Holds.{ListingHolds}
 use Rattle.report.specs.Listing.{newline, lineOf, linesTo, planText, loadedText, listingRoom, listedIn, listedLength}
 use Rattle.report.proofs.HoldsLaws.{listing-holds}
@@ -73,20 +63,9 @@ module _ (p : Plan) (from : ℕ) (old : List ℕ) (room : from + 108 * p .head .
     ends h = let e : i ≡ p .head .count = omega (arith, u .inside) in rw e at (u .done)
 
 -- ---- 8: "points under 3 or over 64"
-parts-few : (a : Parts) (d : Done) → rulesIn a ≡ good d → length (a .points) ≤ mostPoints
-unfolding rulesIn rulesOn
-parts-few a d h = leb-true (length (a .points)) mostPoints (check-means _ _ _ d (check-means _ _ _ d h .1) .0)
-
-finish-few : (serial : ℕ) (a : Parts) (s : State) → finishOf serial a ≡ good s → s .plan .head .count ≤ mostPoints
-unfolding finishOf
-finish-few serial a s e =
-    let m = then-means (rulesIn a) (λ (_ : Done). good (startOf (planOf serial (a .radius) (a .points) (a .courses)))) s e in
-    let k : s .plan .head .count ≡ length (a .points) = ap (λ (t : State). t .plan .head .count) (finish-makes serial a s e) in
-    omega (arith, k, parts-few a (m .0) (m .1 .0))
-
 pub loaded-few : (r : ℕ) (f : List ℕ) (o : Outcome State) → loadOf r f ≡ o → loadedOf o .state .plan .head .count ≤ mostPoints
 unfolding loadedOf
-loaded-few r f (good s) e = let x = load-steps r f s e in finish-few (serialOf f) (x .settled) s (x .finishes)
+loaded-few r f (good s) e = valid-means s (load-valid r f s e) .stands .most
 loaded-few r f (refused n p) e = omega arith
 
 -- ---- a file that loads, and one that is refused

@@ -35,36 +35,37 @@ finish-passed serial a s e =
     let m = then-means (rulesIn a) (λ (_ : Done). good (startOf (planOf serial (a .radius) (a .points) (a .courses)))) s e in
     ap isGood (m .1 .0)
 
+-- ---- a loaded state is the start of the plan that some parts in their ranges make
 module _ (r : ℕ) (f : List ℕ) (s : State) (loads : loadOf r f ≡ good s) where
-  made : (a : Parts) × (InRange a × (finishOf (serialOf f) a ≡ good s))
+  pub load-parts : (a : Parts) × (InRange a × (finishOf (serialOf f) a ≡ good s))
   unfolding partsOf settleOf
-  made =
+  load-parts =
       let x = load-steps r f s loads in
       let e : x .taken ≡ x .settled = let z = x .settles in cc in
       (x .settled, (subst InRange e (gather-ranged r (versionOf f) (recordsOf f) headerLength noParts (x .taken) none-ranged (x .gathered)), x .finishes))
 
-  start-is : s ≡ startOf (planOf (serialOf f) (made .0 .radius) (made .0 .points) (made .0 .courses))
-  start-is = finish-makes (serialOf f) (made .0) s (made .1 .1)
+  pub load-starts : s ≡ startOf (planOf (serialOf f) (load-parts .0 .radius) (load-parts .0 .points) (load-parts .0 .courses))
+  load-starts = finish-makes (serialOf f) (load-parts .0) s (load-parts .1 .1)
 
-  listed : Loads (serialOf f) (made .0 .radius) (made .0 .points) (made .0 .courses)
+  listed : Loads (serialOf f) (load-parts .0 .radius) (load-parts .0 .points) (load-parts .0 .courses)
   unfolding rulesIn
   listed =
-      let a = made .0 in
-      let h = made .1 .0 in
+      let a = load-parts .0 in
+      let h = load-parts .1 .0 in
       record {
         numbered = serial-some f (load-steps r f s loads .header);
         radius = h .radius;
         ranged = h .points;
         aimed = h .courses;
-        rules = finish-passed (serialOf f) a s (made .1 .1);
+        rules = finish-passed (serialOf f) a s (load-parts .1 .1);
       }
 
   pub load-valid : validOf s ≡ true
   load-valid =
-      ap validOf start-is ∙ started-valid _ (loaded-stands (serialOf f) (made .0 .radius) (made .0 .points) (made .0 .courses) listed)
+      ap validOf load-starts ∙ started-valid _ (loaded-stands (serialOf f) (load-parts .0 .radius) (load-parts .0 .points) (load-parts .0 .courses) listed)
 
-  load-serial : s .plan .head .serial ≡ serialOf f
-  load-serial = ap (λ (t : State). t .plan .head .serial) start-is
+  pub load-serial : s .plan .head .serial ≡ serialOf f
+  load-serial = ap (λ (t : State). t .plan .head .serial) load-starts
 
 -- ---- the state of a refused load is the empty one
 module _ (r : ℕ) (f : List ℕ) (number place : ℕ) (refuses : loadOf r f ≡ refused number place) where
