@@ -10,20 +10,20 @@ ghost use mathlib.Core.Path.{_≡_};
 ghost use Prim.Native.Nat.{_≤_};
 ghost use lib.ListN.{length};
 
-const LOAD: u8 = 0x4C;
+const LOAD_LETTER: u8 = 0x4C;
 
-const NOTE: u8 = 0x4E;
+const NOTE_LETTER: u8 = 0x4E;
 
-const WRITE: u8 = 0x57;
+const WRITE_LETTER: u8 = 0x57;
 
 // Where a question's numbers stand, and the file after them.
-const NUMBER: usize = 1;
+const NUMBER_OFFSET: usize = 1;
 
-const ROOM: usize = 5;
+const ROOM_OFFSET: usize = 5;
 
-const SIZE: usize = 7;
+const SIZE_OFFSET: usize = 7;
 
-const HEAD: usize = 9;
+const FILE_OFFSET: usize = 9;
 
 // The most room that is written into.
 const MOST_ROOM: usize = 8192;
@@ -32,7 +32,7 @@ const MOST_ROOM: usize = 8192;
 const BLANK: u8 = 0xAA;
 
 // Room for a line: that of a write into the most room.
-const LINE: usize = 88 + 2 * MOST_ROOM;
+const LINE_ROOM: usize = 88 + 2 * MOST_ROOM;
 
 fn say(text: &[u8]) {
     console::write(text, text.len());
@@ -40,7 +40,7 @@ fn say(text: &[u8]) {
 
 fn show_load(file: &[u8], reader: u32) {
     let loaded = wpl::load(file, reader);
-    let mut line = [0u8; LINE];
+    let mut line = [0u8; LINE_ROOM];
     let end = report::put_load(loaded.refusal, loaded.place, 0, &mut line);
     console::write(&line, end);
 }
@@ -48,7 +48,7 @@ fn show_load(file: &[u8], reader: u32) {
 // No note is as long as the most room; the test is for the prover.
 fn show_note(file: &[u8], number: u32) {
     let note = wpl::note(file, number as usize);
-    let mut line = [0u8; LINE];
+    let mut line = [0u8; LINE_ROOM];
     if note.len() <= MOST_ROOM {
         let end = report::put_note(note, 0, &mut line);
         console::write(&line, end);
@@ -64,7 +64,7 @@ fn blank() -> [u8; MOST_ROOM]
 
 // The room is no longer than the most; the test is for the prover.
 fn show_written(written: Written, room: &[u8]) {
-    let mut line = [0u8; LINE];
+    let mut line = [0u8; LINE_ROOM];
     if room.len() <= MOST_ROOM {
         let end = report::put_written(written, room, 0, &mut line);
         console::write(&line, end);
@@ -72,7 +72,7 @@ fn show_written(written: Written, room: &[u8]) {
 }
 
 fn show_write(file: &[u8], version: u32, room: usize) {
-    let loaded = wpl::load(file, wpl::NEWEST);
+    let loaded = wpl::load(file, records::NEWEST);
     let state = loaded.state;
     let mut space = blank();
     if room <= MOST_ROOM {
@@ -86,11 +86,11 @@ fn show_write(file: &[u8], version: u32, room: usize) {
 }
 
 fn show(letter: u8, number: u32, room: u16, file: &[u8]) {
-    if letter == LOAD {
+    if letter == LOAD_LETTER {
         show_load(file, number);
-    } else if letter == NOTE {
+    } else if letter == NOTE_LETTER {
         show_note(file, number);
-    } else if letter == WRITE {
+    } else if letter == WRITE_LETTER {
         show_write(file, number, room as usize);
     } else {
         say(b"no such question\n");
@@ -102,9 +102,9 @@ fn show_all(questions: &[u8])
     requires { ⌜ length (now questions) ≤ 65536 ⌝ }
 {
     let mut at: usize = 0;
-    while at + HEAD <= questions.len() {
-        let from = at + HEAD;
-        let size = records::u16_at(questions, at + SIZE) as usize;
+    while at + FILE_OFFSET <= questions.len() {
+        let from = at + FILE_OFFSET;
+        let size = records::u16_at(questions, at + SIZE_OFFSET) as usize;
         if questions.len() - from < size {
             say(b"question cut short\n");
             return;
@@ -112,8 +112,8 @@ fn show_all(questions: &[u8])
         let to = from + size;
         show(
             questions[at],
-            records::u32_at(questions, at + NUMBER),
-            records::u16_at(questions, at + ROOM),
+            records::u32_at(questions, at + NUMBER_OFFSET),
+            records::u16_at(questions, at + ROOM_OFFSET),
             &questions[from..to],
         );
         at = to;

@@ -9,19 +9,21 @@ use lib.Dec.{ltb}
 use lib.IntN.{ℤ}
 use borrow.Author.Tests.{ltb-true}
 use lib.Ieee.{ofBits, div, ofInt}
-use Rattle.integers.specs.Choose.{choose}
+use Rattle.conditions.specs.Choose.{choose}
+use Rattle.conditions.specs.Both.{both}
+use Rattle.conditions.specs.Between.{between}
+use Rattle.conditions.proofs.Bools.{both-first, both-second}
 use Rattle.integers.specs.Root.{nextRoot, rootBy, rootOf}
 use Rattle.integers.specs.Round.{nearestOf}
 use Rattle.integers.specs.Wrap.{wrapOf}
 use Rattle.refusals.specs.Outcome.{Outcome, good, refused, check, andThen, isGood}
-use Rattle.refusals.specs.Sweep.{sweep, both, every}
-use Rattle.refusals.proofs.Bools.{both-first, both-second}
+use Rattle.refusals.specs.Sweep.{sweep, every}
 use Rattle.course.specs.Table.{series, scaledSine, sineOf}
 use Rattle.course.specs.Vectors.{cross}
 use Rattle.course.specs.Direction.{quarter, turned, directionOf}
-use Rattle.course.specs.Bearing.{edgeNorth, edgeEast, reaches, climb, bearingIn, bearingBy, bearingOf, signedOf}
+use Rattle.course.specs.Bearing.{edgeNorth, edgeEast, reaches, climb, bearingIn, bearingBy, bearingOf, signedCourse}
 use Rattle.plane.specs.Area.{legOf, levelOf}
-use Rattle.plane.specs.Level.{plus, minus, levelLegOf, dotOf, squareOf, lengthOf, sidewaysOf}
+use Rattle.plane.specs.Level.{plus, minus, levelLegOf, dotOf, squareOf, vectorLength, sidewaysOf}
 use Rattle.plane.specs.Half.{dot3Of, square3Of, halfPlane, metOf, minorSize, crossSize, oppositeOf}
 use Rattle.units.specs.Decimetres.{decimetresOf, inLimit}
 use Rattle.units.specs.Metres.{quotientOf, metresOf}
@@ -29,7 +31,7 @@ use Rattle.units.specs.Position.{allInLimit, positionOf}
 use Rattle.guidance.specs.Commands.{placeMetres, legMetres, lineCommand}
 use Rattle.guidance.specs.Guide.{fromOf, legHeading, legGuide, lineGuide, legEnded, lastLegGuide}
 use Rattle.heading.specs.Heading.{lineAngle, lineHeading}
-use Rattle.plan.specs.Limits.{betweenOf, insideOf, inAreaOf, zeroOf, radiusFits}
+use Rattle.plan.specs.Limits.{signedBetween, insideOf, inAreaOf, zeroOf, radiusFits}
 use Rattle.plan.specs.Places.{padded}
 use Rattle.plan.specs.Rules.{modeOf, coursesFit, pairNumber, cornerNumber, legNumber, pairsOf, cornersOf, legsOf, geometryOn, rulesOn}
 use Rattle.plan.specs.Stands.{givenOf, pointFits, courseFits, valuesFit, placeFits, placesFit, standsOf}
@@ -38,10 +40,10 @@ use Rattle.manager.specs.State.{lastIndex, onLastLeg, lastPhase, atEnd, indexFi
 use Rattle.manager.specs.Step.{guideOf, nextOf, refuseOf, movedOf, locatedStep, stepOf}
 use Rattle.records.specs.Numbers.{u16At, u32At, i32At, u16Bytes, u32Bytes, i32Bytes}
 use Rattle.records.specs.Walk.{walkBy, walk, flat}
-use Rattle.records.specs.Kinds.{table, rowIn, rowOf, optional, knows, between, pointOf, pointBytes, pointRule, valueRule, knownRule, judge}
+use Rattle.records.specs.Kinds.{table, rowIn, rowOf, optional, knows, pointIn, pointBytes, pointRule, valueRule, knownRule, judge}
 use Rattle.records.specs.Gather.{after, gather}
 use Rattle.writer.specs.File.{withHeader, pointRecords, radiusRecord, listed, planRecords, fileOf}
-use Rattle.c_answer.specs.Words.{wordOf, flagOf, kindOf, senseOf, answerWords, commandNumbers}
+use Rattle.c_answer.specs.Words.{wordOf, flagOf, kindOf, commandSense, answerWords, commandNumbers}
 use Rattle.c_state.specs.Stored.{modeWord, modeAt, stateWords, wordAt, holdsState, takenOf}
 use Rattle.wpl.specs.Header.{markedOf, versionOf, serialOf, areaOf, areaFits, headerOf}
 use Rattle.wpl.specs.Load.{recordsOf, partsOf, settleOf, rulesIn, finishOf, bodyOf, loadOf, loadedOf}
@@ -49,7 +51,7 @@ use Rattle.wpl.specs.Write.{carriedSince, writeOf, writtenOf, bufferOf}
 use Rattle.autopilot.specs.Calls.{pairFits, fixFits, loadResult, loadState, loadAnswer, writeFile, writeAnswer, fixWords, fixNumbers, fixNumber, fixNext, writeFrom}
 use Rattle.autopilot.specs.CallList.{replyTo, wordsAfter, replies, wordsInTheEnd}
 use Rattle.autopilot.specs.TwoBuffers.{AreBytes}
-use Rattle.autopilot.specs.Example.{example, ones, Example, Separates, Lengths}
+use Rattle.autopilot.specs.Example.{example, ones, CallExample, Separates, Lengths}
 
 abbrev bytesIn : List ℕ → Bool
 bytesIn [] = true
@@ -69,8 +71,8 @@ indexIn : Outcome State → ℕ
 indexIn (good s) = s .progress .index
 indexIn (refused number place) = 0
 
-pub in-numbers : Example × Separates
-unfolding choose check andThen isGood sweep both every cross legOf minus levelLegOf dot3Of square3Of minorSize crossSize oppositeOf betweenOf insideOf inAreaOf padded modeOf coursesFit pairNumber cornerNumber pairsOf cornersOf legsOf geometryOn rulesOn u16At u32At i32At walkBy walk table rowIn rowOf optional knows between pointOf pointRule valueRule knownRule judge after gather wordOf flagOf modeWord stateWords markedOf versionOf serialOf areaOf areaFits headerOf recordsOf partsOf settleOf rulesIn finishOf bodyOf loadOf loadedOf loadState nextRoot rootBy rootOf nearestOf wrapOf series scaledSine sineOf quarter turned directionOf edgeNorth edgeEast reaches climb bearingIn bearingBy bearingOf levelOf plus dotOf squareOf lengthOf sidewaysOf halfPlane metOf decimetresOf inLimit allInLimit positionOf ofBits fromOf legGuide lineGuide legEnded lastLegGuide lineHeading zeroOf radiusFits givenOf pointFits courseFits valuesFit placeFits placesFit standsOf lastIndex onLastLeg lastPhase atEnd indexFits phaseFits endFits placedOf validOf guideOf nextOf refuseOf movedOf locatedStep stepOf u16Bytes u32Bytes i32Bytes flat pointBytes withHeader pointRecords radiusRecord listed planRecords fileOf kindOf senseOf answerWords commandNumbers modeAt wordAt holdsState takenOf carriedSince writeOf fixWords fixNumbers fixNumber fixNext writeFrom replyTo wordsAfter replies wordsInTheEnd legNumber lineCommand legHeading lineAngle signedOf placeMetres legMetres metresOf quotientOf div ofInt loadResult serialIn indexIn
+pub in-numbers : CallExample × Separates
+unfolding choose check andThen isGood sweep both every cross legOf minus levelLegOf dot3Of square3Of minorSize crossSize oppositeOf signedBetween insideOf inAreaOf padded modeOf coursesFit pairNumber cornerNumber pairsOf cornersOf legsOf geometryOn rulesOn u16At u32At i32At walkBy walk table rowIn rowOf optional knows between pointIn pointRule valueRule knownRule judge after gather wordOf flagOf modeWord stateWords markedOf versionOf serialOf areaOf areaFits headerOf recordsOf partsOf settleOf rulesIn finishOf bodyOf loadOf loadedOf loadState nextRoot rootBy rootOf nearestOf wrapOf series scaledSine sineOf quarter turned directionOf edgeNorth edgeEast reaches climb bearingIn bearingBy bearingOf levelOf plus dotOf squareOf vectorLength sidewaysOf halfPlane metOf decimetresOf inLimit allInLimit positionOf ofBits fromOf legGuide lineGuide legEnded lastLegGuide lineHeading zeroOf radiusFits givenOf pointFits courseFits valuesFit placeFits placesFit standsOf lastIndex onLastLeg lastPhase atEnd indexFits phaseFits endFits placedOf validOf guideOf nextOf refuseOf movedOf locatedStep stepOf u16Bytes u32Bytes i32Bytes flat pointBytes withHeader pointRecords radiusRecord listed planRecords fileOf kindOf commandSense answerWords commandNumbers modeAt wordAt holdsState takenOf carriedSince writeOf fixWords fixNumbers fixNumber fixNext writeFrom replyTo wordsAfter replies wordsInTheEnd legNumber lineCommand legHeading lineAngle signedCourse placeMetres legMetres metresOf quotientOf div ofInt loadResult serialIn indexIn
 in-numbers = (
   record {
     loaded = refl;

@@ -8,10 +8,10 @@ use lib.ListN.{length, take, drop, length-drop}
 use lib.Seq.{length-take-le}
 use native.Mathlib.Omega.{arith}
 use borrow.Author.Tests.{leb-true}
-use Rattle.integers.proofs.ChooseLaws.{choose-true, choose-false}
+use Rattle.conditions.proofs.ChooseLaws.{choose-true, choose-false}
+use Rattle.conditions.proofs.Bools.{both-first, both-second}
 use Rattle.refusals.specs.Numbers.{misfit, noState}
 use Rattle.refusals.specs.Outcome.{Outcome, good, refused}
-use Rattle.refusals.proofs.Bools.{both-first, both-second}
 use Rattle.refusals.proofs.OutcomeLaws.{then-good, then-stops}
 use Rattle.buffers.specs.Splice.{over}
 use Rattle.plan.specs.declared.Head.{Head}
@@ -46,12 +46,12 @@ state-there ws e f = λ t. viewed (e t) (f t) (part northsPlace ws) (part eastsP
 
 -- ---- load
 module _ (b : Bool) (x : Loaded) (state : List ℤ) (answer : List ℕ) where
-  pub record Loads (n : ℕ) (ws : List ℤ) (an : List ℕ) : Type 0 where
+  pub record LoadLeaves (n : ℕ) (ws : List ℤ) (an : List ℕ) : Type 0 where
     pub result : n ≡ loadResult b x
     pub words : ws ≡ loadState b x state
     pub answered : an ≡ loadAnswer b x answer
 
-  pub load-unfit : b ≡ false → Loads misfit state answer
+  pub load-unfit : b ≡ false → LoadLeaves misfit state answer
   unfolding loadResult loadState loadAnswer
   load-unfit h = record { result = sym (choose-false _ _ _ h); words = sym (choose-false _ _ _ h); answered = sym (choose-false _ _ _ h) }
 
@@ -60,7 +60,7 @@ module _ (b : Bool) (x : Loaded) (state : List ℤ) (answer : List ℕ) where
       → back ≡ numbersOf (x .state .plan)
       → now ≡ over (headWords (y .head) ++ progressWords (y .progress)) (take northsPlace state ++ (back ++ drop (stateLength - northsPlace) (drop northsPlace state)))
       → an ≡ over (y .refusal ∷ wordOf (y .place) ∷ []) answer
-      → Loads (y .refusal) now an
+      → LoadLeaves (y .refusal) now an
   unfolding loadResult loadState loadAnswer
   load-fit h back now an f l e n p q =
       record {
@@ -83,18 +83,18 @@ left (good bytes) h file = absurd (h refl)
 left (refused number place) h file = refl
 
 module _ (b : Bool) (o : Outcome (List ℕ)) (file answer : List ℕ) where
-  pub record Writes (n : ℕ) (bytes an : List ℕ) : Type 0 where
+  pub record WriteLeaves (n : ℕ) (bytes an : List ℕ) : Type 0 where
     pub result : n ≡ writeResult b o
     pub written : bytes ≡ writeFile b o file
     pub answered : an ≡ writeAnswer b o answer
     pub kept : Untouched n file bytes
 
-  pub write-unfit : b ≡ false → Writes misfit file answer
+  pub write-unfit : b ≡ false → WriteLeaves misfit file answer
   unfolding writeResult writeFile writeAnswer
   write-unfit h = record { result = sym (choose-false _ _ _ h); written = sym (choose-false _ _ _ h); answered = sym (choose-false _ _ _ h); kept = λ _. refl }
 
   pub write-fit : b ≡ true → (x : Written) (bytes an : List ℕ) → x ≡ writtenOf o → bytes ≡ bufferOf o file → an ≡ over (writeWords x) answer
-      → Writes (x .refusal) bytes an
+      → WriteLeaves (x .refusal) bytes an
   unfolding writeResult writeFile writeAnswer
   write-fit h x bytes an e f a =
       record {
@@ -105,7 +105,7 @@ module _ (b : Bool) (o : Outcome (List ℕ)) (file answer : List ℕ) where
       }
 
   -- words that hold no state
-  pub write-none : b ≡ true → (n : ℕ) (an : List ℕ) → o ≡ refused noState 0 → n ≡ noState → an ≡ over (n ∷ 0 ∷ 0 ∷ []) answer → Writes n file an
+  pub write-none : b ≡ true → (n : ℕ) (an : List ℕ) → o ≡ refused noState 0 → n ≡ noState → an ≡ over (n ∷ 0 ∷ 0 ∷ []) answer → WriteLeaves n file an
   unfolding writtenOf bufferOf wordOf
   write-none h n an e k a =
       write-fit h (record { refusal = n; place = 0; length = 0 }) file an

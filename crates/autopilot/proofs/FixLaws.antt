@@ -9,10 +9,10 @@ use lib.IntN.{ℤ}
 use lib.ListN.{length}
 use lib.Ieee.{Float}
 use borrow.Author.Tests.{le-leb, lt-leb}
-use Rattle.integers.proofs.ChooseLaws.{choose-true, choose-false}
+use Rattle.conditions.proofs.ChooseLaws.{choose-true, choose-false}
+use Rattle.conditions.proofs.Bools.{clash, both-true, both-off-second, both-off}
 use Rattle.refusals.specs.Numbers.{misfit, noState}
 use Rattle.refusals.specs.Outcome.{good, refused}
-use Rattle.refusals.proofs.Bools.{clash, both-true, both-off-second, both-off}
 use Rattle.refusals.proofs.OutcomeLaws.{check-true, check-false, never-good}
 use Rattle.buffers.specs.Splice.{over, splice}
 use Rattle.units.specs.declared.Fix.{Fix}

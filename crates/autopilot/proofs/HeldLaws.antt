@@ -7,10 +7,10 @@ use mathlib.Core.Logic.{⊎-elim}
 use Prim.Native.Nat.{ℕ, _≤_, _<_}
 use native.Mathlib.Omega.{arith}
 use lib.IntN.{ℤ}
-use Rattle.integers.specs.Choose.{choose}
-use Rattle.integers.proofs.ChooseLaws.{choose-true}
+use Rattle.conditions.specs.Choose.{choose}
+use Rattle.conditions.proofs.ChooseLaws.{choose-true}
+use Rattle.conditions.proofs.Bools.{by-bool, clash}
 use Rattle.refusals.specs.Outcome.{Outcome, good, refused}
-use Rattle.refusals.proofs.Bools.{by-bool, clash}
 use Rattle.buffers.specs.Splice.{over}
 use Rattle.units.specs.declared.Fix.{Fix}
 use Rattle.plan.specs.declared.Mode.{Mode}

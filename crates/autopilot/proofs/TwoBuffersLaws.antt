@@ -6,7 +6,7 @@ use Prim.Native.Nat.{ℕ, _<_}
 use native.Mathlib.Omega.{arith}
 use lib.IntN.{ℤ}
 use lib.ListN.{length, drop, drop-of-length-le}
-use Rattle.integers.proofs.ChooseLaws.{choose-true}
+use Rattle.conditions.proofs.ChooseLaws.{choose-true}
 use Rattle.refusals.specs.Outcome.{Outcome, good}
 use Rattle.manager.specs.declared.State.{State}
 use Rattle.c_state.specs.Stored.{stateLength, stateWords}

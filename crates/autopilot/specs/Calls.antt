@@ -7,9 +7,9 @@ use lib.Dec.{leb}
 use lib.IntN.{ℤ}
 use lib.ListN.{length}
 use lib.Ieee.{Float}
-use Rattle.integers.specs.Choose.{choose}
+use Rattle.conditions.specs.Choose.{choose}
+use Rattle.conditions.specs.Both.{both}
 use Rattle.refusals.specs.Outcome.{Outcome, good, refused, andThen}
-use Rattle.refusals.specs.Sweep.{both}
 use Rattle.buffers.specs.Splice.{over}
 use Rattle.units.specs.declared.Fix.{Fix}
 use Rattle.guidance.specs.declared.Command.the-variants.{Nothing}

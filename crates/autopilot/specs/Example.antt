@@ -7,9 +7,11 @@ use mathlib.Core.List.{List, [], _∷_, _++_}
 use Prim.Native.Nat.{ℕ}
 use lib.IntN.{ℤ, pos, negsuc}
 use lib.ListN.{replicate}
-use lib.Ieee.{Float, binary32, ofBits}
+use lib.Ieee.{Float}
 use Rattle.refusals.specs.Outcome.{good, refused}
 use Rattle.units.specs.declared.Fix.{Fix}
+use Rattle.units.specs.CheckedExamples.{fixOf}
+use Rattle.c_answer.specs.Example.{float}
 use Rattle.wpl.specs.declared.Loaded.{Loaded}
 use Rattle.wpl.specs.Load.{loadedOf}
 use Rattle.autopilot.specs.Calls.{loadFits, fixFits, writeFits, loadResult, loadState, loadAnswer, writeFile, writeAnswer}
@@ -36,25 +38,18 @@ wordsAt index finished =
     ++ ((pos 0 ∷ pos 1000 ∷ pos 1000 ∷ replicate 61 (pos 0))
     ++ ((pos 0 ∷ pos 0 ∷ pos 2000 ∷ replicate 61 (pos 0)) ++ ((negsuc 999 ∷ negsuc 999 ∷ negsuc 999 ∷ replicate 61 (pos 0)) ++ replicate 64 (pos 0))))
 
--- floats by their patterns
-abbrev pub float : ℕ → Float
-float bits = ofBits binary32 bits
-
-abbrev pub place : ℕ → ℕ → ℕ → Fix
-place n e d = record { north = float n; east = float e; down = float d }
-
 -- at point 2, (100, 0, −100) in metres
-abbrev pub there : Fix
-there = place 0x42c8_0000 0 0xc2c8_0000
+abbrev pub atPointTwo : Fix
+atPointTwo = fixOf 0x42c8_0000 0 0xc2c8_0000
 
 -- there; there by another serial; a write at version 1, with room for 53 bytes and for 52; at point 3, (100, 200, −100)
 abbrev pub calls : List Call
 calls =
-    fix 7 there
-    ∷ fix 8 there
+    fix 7 atPointTwo
+    ∷ fix 8 atPointTwo
     ∷ write 1 53
     ∷ write 1 52
-    ∷ fix 7 (place 0x42c8_0000 0x4348_0000 0xc2c8_0000)
+    ∷ fix 7 (fixOf 0x42c8_0000 0x4348_0000 0xc2c8_0000)
     ∷ []
 
 abbrev pub noCommand : List Float
@@ -72,10 +67,10 @@ wanted =
 
 -- ---- words that hold no state, and those of the empty state: 14, and the words of index, phase and finished as they are
 abbrev pub asked : List Call
-asked = fix 7 (place 0 0 0) ∷ write 1 53 ∷ []
+asked = fix 7 (fixOf 0 0 0) ∷ write 1 53 ∷ []
 
-abbrev pub refusing : ℕ → List Reply
-refusing word = fixed 14 (14 ∷ 0 ∷ 0 ∷ 0 ∷ 0 ∷ word ∷ word ∷ word ∷ []) noCommand ∷ written (refused 14 0) ∷ []
+abbrev pub noStateReplies : ℕ → List Reply
+noStateReplies word = fixed 14 (14 ∷ 0 ∷ 0 ∷ 0 ∷ 0 ∷ word ∷ word ∷ word ∷ []) noCommand ∷ written (refused 14 0) ∷ []
 
 -- ---- slices of these lengths
 abbrev pub states : ℕ → List ℤ
@@ -87,7 +82,7 @@ words n = replicate n 1
 abbrev pub numbers : ℕ → List Float
 numbers n = replicate n (float 0)
 
-pub record Example : Type 0 where
+pub record CallExample : Type 0 where
   pub loaded : loadedBy 3 example ones ≡ wordsAt (pos 2) (pos 0)
   -- readers one and two are older ones, and this file and these buffers are among those that the law on two buffers speaks of
   pub in-bytes : AreBytes example
@@ -95,17 +90,17 @@ pub record Example : Type 0 where
   pub two : AlikeBuffers → loadedBy 2 example ones ≡ wordsAt (pos 2) (pos 0)
   pub replied : replies (wordsAt (pos 2) (pos 0)) calls ≡ wanted
   pub ended : wordsInTheEnd (wordsAt (pos 2) (pos 0)) calls ≡ wordsAt (pos 3) (pos 1)
-  pub none : replies (replicate 263 (negsuc 0)) asked ≡ refusing 4294967295
+  pub none : replies (replicate 263 (negsuc 0)) asked ≡ noStateReplies 4294967295
   pub left : wordsInTheEnd (replicate 263 (negsuc 0)) asked ≡ replicate 263 (negsuc 0)
-  pub empty : replies (states 263) asked ≡ refusing 0
+  pub empty : replies (states 263) asked ≡ noStateReplies 0
 
 -- what is no load and no fix: a load that leaves other words, a refused one that leaves them as they were, a fix at the point that is flown to which
 -- does not move on, and a refused one that does
 pub record Separates : Type 0 where
   pub unloaded : LoadHolds true 3 example ones (states 263) → ⊥
   pub uncleared : LoadHolds true 4 example ones ones → ⊥
-  pub unmoved : FixHolds true 7 there (wordsAt (pos 2) (pos 0)) (wordsAt (pos 2) (pos 0)) 0 → ⊥
-  pub moved : FixHolds true 8 there (wordsAt (pos 2) (pos 0)) (wordsAt (pos 3) (pos 0)) 15 → ⊥
+  pub unmoved : FixHolds true 7 atPointTwo (wordsAt (pos 2) (pos 0)) (wordsAt (pos 2) (pos 0)) 0 → ⊥
+  pub moved : FixHolds true 8 atPointTwo (wordsAt (pos 2) (pos 0)) (wordsAt (pos 3) (pos 0)) 15 → ⊥
 
 -- which slices are long enough, and what a refusal and a success leave in longer ones
 pub record Lengths : Type 0 where

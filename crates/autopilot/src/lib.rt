@@ -18,13 +18,13 @@ ghost use Rattle.wpl.specs.Write.{writeOf, writtenOf, bufferOf};
 ghost use Rattle.autopilot.specs.Held.{Untouched, LoadHolds, FixHolds};
 ghost use Rattle.autopilot.specs.CallList.{CallsRun};
 ghost use Rattle.autopilot.specs.TwoBuffers.{AlikeBuffers, BuffersFly};
-ghost use Rattle.autopilot.specs.Example.{Example, Separates, Lengths};
+ghost use Rattle.autopilot.specs.Example.{CallExample, Separates, Lengths};
 ghost use Rattle.autopilot.specs.Calls.{pairFits, loadFits, loadResult, loadState, loadAnswer, fixFits, refusedWords, fixResult, fixState, fixAnswer, fixCommand, writeFits, writeFrom, writeResult, writeFile, writeAnswer};
 
 // The words of the answers to a load and to a write.
-pub const LOAD: usize = 2;
+pub const LOAD_ANSWER: usize = 2;
 
-pub const WRITE: usize = 3;
+pub const WRITE_ANSWER: usize = 3;
 
 // The number of this interface, by which a caller knows that the archive and the header belong together.
 #[no_mangle]
@@ -38,7 +38,7 @@ pub extern "C" fn farnkuppel_interface() -> u32
 fn fits(state: usize, answer: usize, least: usize) -> bool
     ensures { λ r. ⌜ r ≡ pairFits state answer least ⌝ }
 {
-    if c_state::STATE <= state {
+    if c_state::STATE_LENGTH <= state {
         return least <= answer;
     }
     false
@@ -58,10 +58,14 @@ pub extern "C" fn farnkuppel_load(
     ensures { λ _. ⌜ LoadHolds (loadFits (now (state .entry)) (now (answer .entry))) reader (now (file .entry)) (now (state .entry)) (now (state .exit)) ⌝ }
     ensures { λ _. ⌜ AlikeBuffers × BuffersFly ⌝ }
 {
-    if !fits(state.len(), answer.len(), LOAD) {
+    if !fits(state.len(), answer.len(), LOAD_ANSWER) {
         return refusals::MISFIT as u32;
     }
-    let entered = wpl::load_into(file, reader, &mut state[c_state::NORTHS..c_state::STATE]);
+    let entered = wpl::load_into(
+        file,
+        reader,
+        &mut state[c_state::NORTHS_PLACE..c_state::STATE_LENGTH],
+    );
     let head = entered.head;
     let progress = entered.progress;
     c_state::put_head(head, progress, state);
@@ -81,10 +85,10 @@ fn decide_at(words: &[i32], serial: u32, fix: Fix) -> Decided
         c_state::progress_at(words),
         serial,
         fix,
-        &words[c_state::NORTHS..c_state::EASTS],
-        &words[c_state::EASTS..c_state::DOWNS],
-        &words[c_state::DOWNS..c_state::COURSES],
-        &words[c_state::COURSES..c_state::STATE],
+        &words[c_state::NORTHS_PLACE..c_state::EASTS_PLACE],
+        &words[c_state::EASTS_PLACE..c_state::DOWNS_PLACE],
+        &words[c_state::DOWNS_PLACE..c_state::COURSES_PLACE],
+        &words[c_state::COURSES_PLACE..c_state::STATE_LENGTH],
     )
 }
 
@@ -100,9 +104,9 @@ fn refuse(words: &[i32], answer: &mut [u32], command: &mut [f32])
         0,
         0,
         0,
-        c_state::word_at(words, c_state::INDEX),
-        c_state::word_at(words, c_state::PHASE),
-        c_state::word_at(words, c_state::FINISHED),
+        c_state::word_at(words, c_state::INDEX_PLACE),
+        c_state::word_at(words, c_state::PHASE_PLACE),
+        c_state::word_at(words, c_state::FINISHED_PLACE),
     ];
     buffers::put_words(&values, answer);
     c_answer::put_command(Command::Nothing, command);
@@ -124,7 +128,7 @@ pub extern "C" fn farnkuppel_fix(
     ensures { λ _. ⌜ now (answer .exit) ≡ fixAnswer (fixFits (now (state .entry)) (now (answer .entry)) (now (command .entry))) (now (state .entry)) serial (record { north = north; east = east; down = down }) (now (answer .entry)) ⌝ }
     ensures { λ _. ⌜ now (command .exit) ≡ fixCommand (fixFits (now (state .entry)) (now (answer .entry)) (now (command .entry))) (now (state .entry)) serial (record { north = north; east = east; down = down }) (now (command .entry)) ⌝ }
     ensures { λ r. ⌜ FixHolds (fixFits (now (state .entry)) (now (answer .entry)) (now (command .entry))) serial (record { north = north; east = east; down = down }) (now (state .entry)) (now (state .exit)) r ⌝ }
-    ensures { λ _. ⌜ CallsRun × ((Example × Separates) × Lengths) ⌝ }
+    ensures { λ _. ⌜ CallsRun × ((CallExample × Separates) × Lengths) ⌝ }
 {
     if !fits(state.len(), answer.len(), c_answer::ANSWER) {
         return refusals::MISFIT as u32;
@@ -155,10 +159,10 @@ fn write_at(words: &[i32], version: u32, file: &mut [u8]) -> Written
     wpl::write_from(
         c_state::head_at(words),
         c_state::progress_at(words),
-        &words[c_state::NORTHS..c_state::EASTS],
-        &words[c_state::EASTS..c_state::DOWNS],
-        &words[c_state::DOWNS..c_state::COURSES],
-        &words[c_state::COURSES..c_state::STATE],
+        &words[c_state::NORTHS_PLACE..c_state::EASTS_PLACE],
+        &words[c_state::EASTS_PLACE..c_state::DOWNS_PLACE],
+        &words[c_state::DOWNS_PLACE..c_state::COURSES_PLACE],
+        &words[c_state::COURSES_PLACE..c_state::STATE_LENGTH],
         version,
         file,
     )
@@ -177,7 +181,7 @@ pub extern "C" fn farnkuppel_write(
     ensures { λ _. ⌜ now (answer .exit) ≡ writeAnswer (writeFits (now (state .entry)) (now (answer .entry))) (writeFrom (now (state .entry)) version (length (now (file .entry)))) (now (answer .entry)) ⌝ }
     ensures { λ r. ⌜ Untouched r (now (file .entry)) (now (file .exit)) ⌝ }
 {
-    if !fits(state.len(), answer.len(), WRITE) {
+    if !fits(state.len(), answer.len(), WRITE_ANSWER) {
         return refusals::MISFIT as u32;
     }
     if !c_state::holds_state(state) {

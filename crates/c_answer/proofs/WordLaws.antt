@@ -6,7 +6,7 @@ use lib.ListN.{length}
 use lib.IntN.{ℤ, pos, negsuc}
 use lib.Dec.{ltb→lt}
 use lib.Signed.{_<ℤ_, _≤ℤ_}
-use Rattle.integers.specs.Choose.{choose}
+use Rattle.conditions.specs.Choose.{choose}
 use Rattle.guidance.specs.declared.Command.{Command}
 use Rattle.guidance.specs.declared.Command.the-variants.{Line, Circle, Nothing}
 use Rattle.manager.specs.declared.Answer.{Answer}

@@ -6,7 +6,7 @@ use Prim.Native.Nat.{ℕ, _%_}
 use lib.IntN.{ℤ, pos}
 use lib.Signed.{nonNeg}
 use lib.Ieee.{Float, fin}
-use Rattle.integers.specs.Choose.{choose}
+use Rattle.conditions.specs.Choose.{choose}
 use Rattle.guidance.specs.declared.Command.{Command}
 use Rattle.guidance.specs.declared.Command.the-variants.{Line, Circle, Nothing}
 use Rattle.manager.specs.declared.Answer.{Answer}
@@ -33,14 +33,14 @@ kindOf Nothing = 0
 unfoldable pub senseWord : ℤ → ℕ
 senseWord sense = choose (nonNeg sense) 1 4294967295
 
-unfoldable pub senseOf : Command → ℕ
-senseOf (Line start direction) = 0
-senseOf (Circle centre radius sense) = senseWord sense
-senseOf Nothing = 0
+unfoldable pub commandSense : Command → ℕ
+commandSense (Line start direction) = 0
+commandSense (Circle centre radius sense) = senseWord sense
+commandSense Nothing = 0
 
 unfoldable pub answerWords : Answer → List ℕ
 answerWords a =
-    a .refusal ∷ wordOf (a .place) ∷ kindOf (a .command) ∷ senseOf (a .command) ∷ a .heading ∷ wordOf (a .index) ∷ a .phase ∷ flagOf (a .finished) ∷ []
+    a .refusal ∷ wordOf (a .place) ∷ kindOf (a .command) ∷ commandSense (a .command) ∷ a .heading ∷ wordOf (a .index) ∷ a .phase ∷ flagOf (a .finished) ∷ []
 
 abbrev pub nought : Float
 nought = fin false 0 (pos 0)

@@ -5,7 +5,7 @@ ghost use mathlib.Core.Path.{_≡_};
 ghost use Prim.Native.Nat.{_+_, _≤_};
 ghost use lib.ListN.{length};
 ghost use Rattle.buffers.specs.Splice.{over, splice};
-ghost use Rattle.c_answer.specs.Words.{wordOf, flagOf, kindOf, senseWord, senseOf, answerWords, commandNumbers};
+ghost use Rattle.c_answer.specs.Words.{wordOf, flagOf, kindOf, senseWord, commandSense, answerWords, commandNumbers};
 ghost use Rattle.c_answer.specs.Example.{AnswerExample, CommandExample};
 
 // The number of the interface for C. It grows whenever a word moves or a function changes.
@@ -19,18 +19,18 @@ pub const COMMAND: usize = 6;
 // The kinds of command.
 const NO_COMMAND: u32 = 0;
 
-const LINE: u32 = 1;
+pub const LINE_KIND: u32 = 1;
 
-const CIRCLE: u32 = 2;
+pub const CIRCLE_KIND: u32 = 2;
 
 // How many values a word has.
-const WORD: usize = 4294967296;
+const WORD_VALUES: usize = 4294967296;
 
 // What a word holds of a number.
 pub fn word(n: usize) -> u32
     ensures { λ r. ⌜ r ≡ wordOf n ⌝ }
 {
-    (n % WORD) as u32
+    (n % WORD_VALUES) as u32
 }
 
 pub fn flag(b: bool) -> u32
@@ -46,12 +46,12 @@ fn kind(command: Command) -> u32
     ensures { λ r. ⌜ r ≡ kindOf command ⌝ }
 {
     match command {
-        Command::Line { start, direction } => LINE,
+        Command::Line { start, direction } => LINE_KIND,
         Command::Circle {
             centre,
             radius,
             sense,
-        } => CIRCLE,
+        } => CIRCLE_KIND,
         Command::Nothing => NO_COMMAND,
     }
 }
@@ -66,8 +66,8 @@ fn sense_word(sense: i8) -> u32
     1
 }
 
-fn sense(command: Command) -> u32
-    ensures { λ r. ⌜ r ≡ senseOf command ⌝ }
+fn command_sense(command: Command) -> u32
+    ensures { λ r. ⌜ r ≡ commandSense command ⌝ }
 {
     match command {
         Command::Line { start, direction } => 0,
@@ -91,7 +91,7 @@ pub fn put_answer(answer: Answer, part: &mut [u32])
         answer.refusal as u32,
         word(answer.place),
         kind(command),
-        sense(command),
+        command_sense(command),
         answer.heading as u32,
         word(answer.index),
         answer.phase as u32,

@@ -1,8 +1,8 @@
 -- A state's words in numbers, computed from their definitions. Assumes nothing.
 use mathlib.Core.Path.{refl}
-use Rattle.integers.specs.Choose.{choose}
+use Rattle.conditions.specs.Choose.{choose}
+use Rattle.conditions.specs.Both.{both}
 use Rattle.refusals.specs.Outcome.{check, isGood}
-use Rattle.refusals.specs.Sweep.{both}
 use Rattle.c_answer.specs.Words.{wordOf, flagOf}
 use Rattle.c_state.specs.Stored.{modeWord, modeAt, stateWords, wordAt, holdsState, takenOf}
 use Rattle.c_state.specs.Layout.{Layout, Edges}

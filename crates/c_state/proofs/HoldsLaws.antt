@@ -9,7 +9,7 @@ use mir.Syntax.{w8, w16, w32}
 use mir.Val.{Fits, SFits}
 use lib.Dec.{leb}
 use borrow.Author.Tests.{leb-true, ltb-true, le-leb, lt-leb, lt-ltb, le-ltb}
-use Rattle.refusals.proofs.Bools.{both-first, both-second, both-on, both-off, both-off-second}
+use Rattle.conditions.proofs.Bools.{both-first, both-second, both-on, both-off, both-off-second}
 use Rattle.plan.specs.Places.{numberAt}
 use Rattle.c_state.specs.Stored.{serialPlace, modePlace, radiusPlace, indexPlace, phasePlace, finishedPlace, northsPlace, wordAt, holdsState, AreWords}
 

@@ -10,14 +10,14 @@ use lib.Dec.{eqb}
 use lib.IntN.{ℤ, pos}
 use lib.ListN.{length, take, drop, replicate, length-append, length-drop}
 use lib.Seq.{length-take-le, take-at, drop-at, drop-cons, drop-drop, take-add}
-use mir.Syntax.{w32}
-use mir.Val.{toZ, ofZ}
-use mir.Facts.{toZ-ofZ, ofZ-toZ, fits-ofZ}
+use mir.Facts.{fits-ofZ}
 use borrow.Author.Tests.{lt-ltb, le-leb}
-use Rattle.integers.specs.Choose.{choose}
+use Rattle.conditions.specs.Choose.{choose}
+use Rattle.conditions.proofs.Bools.{both-true}
+use Rattle.integers.specs.TwosComplement.{signedOf, unsignedOf}
+use Rattle.integers.proofs.TwosComplementLaws.{signed-unsigned, unsigned-signed}
 use Rattle.refusals.specs.Numbers.{noState}
 use Rattle.refusals.specs.Outcome.{good}
-use Rattle.refusals.proofs.Bools.{both-true}
 use Rattle.refusals.proofs.OutcomeLaws.{check-true}
 use Rattle.buffers.specs.Splice.{over, splice}
 use Rattle.buffers.proofs.SpliceLaws.{put-there, followed}
@@ -126,20 +126,20 @@ module _ (ws : List ℤ) where
 
   -- ---- words that hold a state, and another progress of its plan
   module _ (m n : ℕ) (words : AreWords m n ws) where
-    back : (i : ℕ) → m ≤ i → i < n → toZ w32 (wordAt ws i) ≡ numberAt ws i
+    back : (i : ℕ) → m ≤ i → i < n → signedOf (wordAt ws i) ≡ numberAt ws i
     unfolding wordAt
-    back i k l = toZ-ofZ (words i k l)
+    back i k l = signed-unsigned _ (words i k l)
 
-    count-back : (i : ℕ) → m ≤ i → i < n → toZ w32 (wordOf (wordAt ws i)) ≡ numberAt ws i
+    count-back : (i : ℕ) → m ≤ i → i < n → signedOf (wordOf (wordAt ws i)) ≡ numberAt ws i
     unfolding wordAt
-    count-back i k l = ap (toZ w32) (word-kept (ofZ w32 (numberAt ws i)) (fits-ofZ (words i k l) .fits)) ∙ toZ-ofZ (words i k l)
+    count-back i k l = ap signedOf (word-kept (unsignedOf (numberAt ws i)) (fits-ofZ (words i k l) .fits)) ∙ signed-unsigned _ (words i k l)
 
   module _ (long : stateLength ≤ length ws) (h : holdsState ws ≡ true) where
     head-there : AreWords serialPlace indexPlace ws → headWords (headAt ws) ≡ take indexPlace ws
     head-there words =
         (λ t.
         back 0 4 words 0 (omega arith) (omega arith) t
-        ∷ (ap (toZ w32) (mode-word (wordAt ws 1) (holds-means ws h .mode)) ∙ back 0 4 words 1 (omega arith) (omega arith)) t
+        ∷ (ap signedOf (mode-word (wordAt ws 1) (holds-means ws h .mode)) ∙ back 0 4 words 1 (omega arith) (omega arith)) t
         ∷ back 0 4 words 2 (omega arith) (omega arith) t
         ∷ count-back 0 4 words 3 (omega arith) (omega arith) t
         ∷ [])
@@ -150,7 +150,7 @@ module _ (ws : List ℤ) where
         (λ t.
         count-back 4 7 words 4 (omega arith) (omega arith) t
         ∷ back 4 7 words 5 (omega arith) (omega arith) t
-        ∷ (ap (toZ w32) (flag-word (wordAt ws 6) (holds-means ws h .finished)) ∙ back 4 7 words 6 (omega arith) (omega arith)) t
+        ∷ (ap signedOf (flag-word (wordAt ws 6) (holds-means ws h .finished)) ∙ back 4 7 words 6 (omega arith) (omega arith)) t
         ∷ [])
         ∙ some 3 indexPlace (omega arith)
 
@@ -216,11 +216,8 @@ module _ (h : List ℤ) (p : Plan) (w : Filled p) (behind : List ℤ) (e : lengt
       (found all upTo2 (p .downs) (p .courses ++ behind) (simp append-assoc) l2 (w .down) t)
       (found all upTo3 (p .courses) behind (simp append-assoc) l3 (w .course) t)
 
-same : (n : ℕ) → n < 4294967296 → ofZ w32 (toZ w32 n) ≡ n
-same n h = ofZ-toZ {w = w32} (record { fits = h })
-
-same-count : (n : ℕ) → n < 4294967296 → ofZ w32 (toZ w32 (wordOf n)) ≡ n
-same-count n h = let k = word-kept n h in same (wordOf n) (rw k h) ∙ k
+same-count : (n : ℕ) → n < 4294967296 → unsignedOf (signedOf (wordOf n)) ≡ n
+same-count n h = let k = word-kept n h in unsigned-signed (wordOf n) (rw k h) ∙ k
 
 module _ (s : State) (fits : Storable s) (behind : List ℤ) where
   abbrev stored : List ℤ
@@ -228,25 +225,25 @@ module _ (s : State) (fits : Storable s) (behind : List ℤ) where
 
   mode-back : wordAt stored modePlace ≡ modeWord (s .plan .head .mode)
   unfolding stateWords wordAt
-  mode-back = same (modeWord (s .plan .head .mode)) (omega (arith, mode-most (s .plan .head .mode)))
+  mode-back = unsigned-signed (modeWord (s .plan .head .mode)) (omega (arith, mode-most (s .plan .head .mode)))
 
   radius-back : wordAt stored radiusPlace ≡ s .plan .head .radius
   unfolding stateWords wordAt
-  radius-back = same (s .plan .head .radius) (omega (arith, fits .radius))
+  radius-back = unsigned-signed (s .plan .head .radius) (omega (arith, fits .radius))
 
   phase-back : wordAt stored phasePlace ≡ s .progress .phase
   unfolding stateWords wordAt
-  phase-back = same (s .progress .phase) (omega (arith, fits .phase))
+  phase-back = unsigned-signed (s .progress .phase) (omega (arith, fits .phase))
 
   flag-back : wordAt stored finishedPlace ≡ flagOf (s .progress .finished)
   unfolding stateWords wordAt
-  flag-back = same (flagOf (s .progress .finished)) (omega (arith, flag-most (s .progress .finished)))
+  flag-back = unsigned-signed (flagOf (s .progress .finished)) (omega (arith, flag-most (s .progress .finished)))
 
   head-back : headAt stored ≡ s .plan .head
   unfolding stateWords wordAt
   head-back =
       λ t. record {
-        serial = same (s .plan .head .serial) (fits .serial) t;
+        serial = unsigned-signed (s .plan .head .serial) (fits .serial) t;
         mode = (ap modeAt mode-back ∙ word-mode (s .plan .head .mode)) t;
         radius = radius-back t;
         count = same-count (s .plan .head .count) (fits .count) t;

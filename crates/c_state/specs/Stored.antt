@@ -7,11 +7,12 @@ use lib.Dec.{eqb, leb, ltb}
 use lib.IntN.{ℤ}
 use lib.ListN.{take, drop}
 use mir.Syntax.{w32}
-use mir.Val.{SFits, toZ, ofZ}
-use Rattle.integers.specs.Choose.{choose}
+use mir.Val.{SFits}
+use Rattle.conditions.specs.Choose.{choose}
+use Rattle.conditions.specs.Both.{both}
+use Rattle.integers.specs.TwosComplement.{signedOf, unsignedOf}
 use Rattle.refusals.specs.Numbers.{noState}
 use Rattle.refusals.specs.Outcome.{Outcome, good, check}
-use Rattle.refusals.specs.Sweep.{both}
 use Rattle.plan.specs.declared.Mode.{Mode}
 use Rattle.plan.specs.declared.Mode.the-variants.{Lines, Fillets, Dubins}
 use Rattle.plan.specs.declared.Head.{Head}
@@ -71,7 +72,7 @@ modeAt n = choose (eqb n 0) Lines (choose (eqb n 1) Fillets Dubins)
 -- ---- into words
 -- numbers with no sign
 abbrev pub inWords : List ℕ → List ℤ
-inWords ns = map (toZ w32) ns
+inWords ns = map signedOf ns
 
 abbrev pub headWords : Head → List ℤ
 headWords h = inWords (h .serial ∷ modeWord (h .mode) ∷ h .radius ∷ wordOf (h .count) ∷ [])
@@ -85,7 +86,7 @@ stateWords s = headWords (s .plan .head) ++ (progressWords (s .progress) ++ numb
 -- ---- out of words
 -- a word's bits
 unfoldable pub wordAt : List ℤ → ℕ → ℕ
-wordAt ws i = ofZ w32 (numberAt ws i)
+wordAt ws i = unsignedOf (numberAt ws i)
 
 abbrev pub headAt : List ℤ → Head
 headAt ws =

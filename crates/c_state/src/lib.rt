@@ -15,54 +15,54 @@ ghost use Rattle.c_state.specs.Layout.{Layout, Edges};
 ghost use Rattle.c_state.specs.Stored.{serialPlace, indexPlace, northsPlace, stateLength, modeWord, modeAt, inWords, headWords, progressWords, wordAt, headAt, progressAt, holdsState, AreWords};
 
 // Where a state's words stand: these seven, then as many norths, easts, downs and courses as a plan has places.
-pub const SERIAL: usize = 0;
+pub const SERIAL_PLACE: usize = 0;
 
-pub const MODE: usize = 1;
+pub const MODE_PLACE: usize = 1;
 
-pub const RADIUS: usize = 2;
+pub const RADIUS_PLACE: usize = 2;
 
-pub const COUNT: usize = 3;
+pub const COUNT_PLACE: usize = 3;
 
-pub const INDEX: usize = 4;
+pub const INDEX_PLACE: usize = 4;
 
-pub const PHASE: usize = 5;
+pub const PHASE_PLACE: usize = 5;
 
-pub const FINISHED: usize = 6;
+pub const FINISHED_PLACE: usize = 6;
 
-pub const NORTHS: usize = 7;
+pub const NORTHS_PLACE: usize = 7;
 
-pub const EASTS: usize = NORTHS + plan::POINTS;
+pub const EASTS_PLACE: usize = NORTHS_PLACE + plan::MOST_POINTS;
 
-pub const DOWNS: usize = EASTS + plan::POINTS;
+pub const DOWNS_PLACE: usize = EASTS_PLACE + plan::MOST_POINTS;
 
-pub const COURSES: usize = DOWNS + plan::POINTS;
+pub const COURSES_PLACE: usize = DOWNS_PLACE + plan::MOST_POINTS;
 
 // How many words a state takes.
-pub const STATE: usize = COURSES + plan::POINTS;
+pub const STATE_LENGTH: usize = COURSES_PLACE + plan::MOST_POINTS;
 
 // The words of the modes.
-const LINES: u32 = 0;
+const LINES_WORD: u32 = 0;
 
-const FILLETS: u32 = 1;
+const FILLETS_WORD: u32 = 1;
 
-const DUBINS: u32 = 2;
+const DUBINS_WORD: u32 = 2;
 
 // The word of a state that is finished.
-const DONE: u32 = 1;
+const FINISHED_WORD: u32 = 1;
 
-// How many values one byte has, and two.
-const ONE_BYTE: u32 = 256;
+// One more than the greatest radius and the greatest phase of their types.
+const RADII: u32 = integers::TWO_BYTES;
 
-const TWO_BYTES: u32 = 65536;
+const PHASES: u32 = integers::ONE_BYTE as u32;
 
 // The mode of a word.
-fn mode_of(word: u32) -> Mode
+fn mode_at(word: u32) -> Mode
     ensures { λ r. ⌜ r ≡ modeAt word ⌝ }
 {
-    if word == LINES {
+    if word == LINES_WORD {
         return Mode::Lines;
     }
-    if word == FILLETS {
+    if word == FILLETS_WORD {
         return Mode::Fillets;
     }
     Mode::Dubins
@@ -73,9 +73,9 @@ fn mode_word(mode: Mode) -> u32
     ensures { λ r. ⌜ r ≡ modeWord mode ⌝ }
 {
     match mode {
-        Mode::Lines => LINES,
-        Mode::Fillets => FILLETS,
-        Mode::Dubins => DUBINS,
+        Mode::Lines => LINES_WORD,
+        Mode::Fillets => FILLETS_WORD,
+        Mode::Dubins => DUBINS_WORD,
     }
 }
 
@@ -93,10 +93,10 @@ pub fn holds_state(words: &[i32]) -> bool
     ensures { λ r. ⌜ r ≡ holdsState (now (words .entry)) ⌝ }
     ensures { λ _. ⌜ Edges ⌝ }
 {
-    if word_at(words, MODE) <= DUBINS {
-        if word_at(words, RADIUS) < TWO_BYTES {
-            if word_at(words, PHASE) < ONE_BYTE {
-                return word_at(words, FINISHED) <= DONE;
+    if word_at(words, MODE_PLACE) <= DUBINS_WORD {
+        if word_at(words, RADIUS_PLACE) < RADII {
+            if word_at(words, PHASE_PLACE) < PHASES {
+                return word_at(words, FINISHED_PLACE) <= FINISHED_WORD;
             }
         }
     }
@@ -108,12 +108,12 @@ pub fn head_at(words: &[i32]) -> Head
     requires { ⌜ (stateLength ≤ length (now words)) × (holdsState (now words) ≡ true) ⌝ }
     ensures { λ r. ⌜ (r ≡ headAt (now (words .entry))) × AreWords serialPlace indexPlace (now (words .entry)) ⌝ }
 {
-    let mode = mode_of(word_at(words, MODE));
+    let mode = mode_at(word_at(words, MODE_PLACE));
     Head {
-        serial: word_at(words, SERIAL),
+        serial: word_at(words, SERIAL_PLACE),
         mode,
-        radius: word_at(words, RADIUS) as u16,
-        count: word_at(words, COUNT) as usize,
+        radius: word_at(words, RADIUS_PLACE) as u16,
+        count: word_at(words, COUNT_PLACE) as usize,
     }
 }
 
@@ -123,9 +123,9 @@ pub fn progress_at(words: &[i32]) -> Progress
     ensures { λ r. ⌜ (r ≡ progressAt (now (words .entry))) × AreWords indexPlace northsPlace (now (words .entry)) ⌝ }
 {
     Progress {
-        index: word_at(words, INDEX) as usize,
-        phase: word_at(words, PHASE) as u8,
-        finished: word_at(words, FINISHED) == DONE,
+        index: word_at(words, INDEX_PLACE) as usize,
+        phase: word_at(words, PHASE_PLACE) as u8,
+        finished: word_at(words, FINISHED_PLACE) == FINISHED_WORD,
     }
 }
 
@@ -170,5 +170,5 @@ pub fn put_progress(progress: Progress, words: &mut [i32])
         progress.phase as u32,
         c_answer::flag(progress.finished),
     ];
-    put_bits(&bits, &mut words[INDEX..]);
+    put_bits(&bits, &mut words[INDEX_PLACE..]);
 }

@@ -9,14 +9,14 @@ use lib.Dec.{T, leb, ltb, leb→le, le→leb}
 use lib.IntN.{ℤ, pos, negsuc, _-ℤ_}
 use lib.Signed.{_<ℤ_, <ℤ-irrefl}
 use borrow.Author.Tests.{lt-ltb, le-ltb}
-use Rattle.integers.specs.Choose.{choose}
-use Rattle.integers.proofs.ChooseLaws.{choose-true, choose-false}
+use Rattle.conditions.specs.Choose.{choose}
+use Rattle.conditions.proofs.ChooseLaws.{choose-true, choose-false}
 use Rattle.integers.specs.Bounds.{Within}
 use Rattle.integers.proofs.Ring.{v, lit, sub, mul, same, le, le-of, lt, within-range}
 use Rattle.course.specs.declared.Vector.{Vector}
 use Rattle.course.specs.Vectors.{plain, cross}
 use Rattle.course.specs.Direction.{quarter, turned, directionOf}
-use Rattle.course.specs.Bearing.{edgeOf, edgeNorth, edgeEast, Reached, IsBearing, reaches, climb, bearingIn, bearingBy, bearingOf, signedOf, signedBearingOf, IsSigned, Bears}
+use Rattle.course.specs.Bearing.{edgeOf, edgeNorth, edgeEast, Reached, IsBearing, reaches, climb, bearingIn, bearingBy, bearingOf, signedCourse, signedBearingOf, IsSigned, Bears}
 use Rattle.course.proofs.TableLaws.{and-left, and-right}
 use Rattle.course.proofs.DirectionLaws.{table-facts}
 use Rattle.course.proofs.SectorLaws.{Shifted, sector-is, sector-only}
@@ -213,15 +213,15 @@ pub bearing-turned : (a b t q : ℕ) → 0 < a → Reached a b t → q < 4 → b
 bearing-turned a b t q ha z hq = sym (bearing-only (turned q (plain a b)) ((1024 * q + t) % 4096) (quarter-is a b t q ha z hq))
 
 -- ---- the signed bearing lies in −2048..2047
-pub signed-low : (k : ℕ) → k < 2048 → signedOf k ≡ pos k
-unfolding signedOf
+pub signed-low : (k : ℕ) → k < 2048 → signedCourse k ≡ pos k
+unfolding signedCourse
 signed-low k h = choose-true (ltb k 2048) (pos k) (pos k -ℤ pos 4096) (lt-ltb k 2048 h)
 
-pub signed-high : (k : ℕ) → 2048 ≤ k → signedOf k ≡ pos k -ℤ pos 4096
-unfolding signedOf
+pub signed-high : (k : ℕ) → 2048 ≤ k → signedCourse k ≡ pos k -ℤ pos 4096
+unfolding signedCourse
 signed-high k h = choose-false (ltb k 2048) (pos k) (pos k -ℤ pos 4096) (le-ltb k 2048 h)
 
-range-dec : (k : ℕ) → k < 4096 → Dec (k < 2048) → IsSigned (signedOf k)
+range-dec : (k : ℕ) → k < 4096 → Dec (k < 2048) → IsSigned (signedCourse k)
 range-dec k h (yes p) = rw (signed-low k p) (record { least = le (v (negsuc 2047)) (lit k) (omega arith); most = le (lit k) (lit 2047) (omega arith) })
 range-dec k h (no p) =
     rw (signed-high k (omega arith)) (record { least = le (v (negsuc 2047)) (sub (lit k) (lit 4096)) (omega arith); most = le (sub (lit k) (lit 4096)) (lit 2047) (omega arith) })

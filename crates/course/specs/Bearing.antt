@@ -5,7 +5,7 @@ use Prim.Native.Nat.{ℕ, zero, suc, _+_, _-_, _*_, _%_, _^_, _≤_, _<_}
 use lib.Dec.{leb, ltb}
 use lib.IntN.{ℤ, pos, negsuc, _-ℤ_}
 use lib.Signed.{_≤ℤ_, _<ℤ_}
-use Rattle.integers.specs.Choose.{choose}
+use Rattle.conditions.specs.Choose.{choose}
 use Rattle.course.specs.declared.Vector.{Vector}
 use Rattle.course.specs.Table.{sineOf}
 use Rattle.course.specs.Vectors.{plain, cross}
@@ -63,11 +63,11 @@ pub record IsSigned (z : ℤ) : Type 0 where
   pub least : negsuc 2047 ≤ℤ z
   pub most : z ≤ℤ pos 2047
 
-unfoldable pub signedOf : ℕ → ℤ
-signedOf k = choose (ltb k 2048) (pos k) (pos k -ℤ pos 4096)
+unfoldable pub signedCourse : ℕ → ℤ
+signedCourse k = choose (ltb k 2048) (pos k) (pos k -ℤ pos 4096)
 
 abbrev pub signedBearingOf : Vector → ℤ
-signedBearingOf v = signedOf (bearingOf v)
+signedBearingOf v = signedCourse (bearingOf v)
 
 -- ---- what the functions promise
 

@@ -1,7 +1,7 @@
 -- The call for a note in numbers, computed from its definitions. Assumes nothing.
 use mathlib.Core.Path.{refl}
-use Rattle.integers.specs.Choose.{choose}
-use Rattle.refusals.specs.Sweep.{both}
+use Rattle.conditions.specs.Choose.{choose}
+use Rattle.conditions.specs.Both.{both}
 use Rattle.desk.specs.Calls.{noteFits, noteResult, noteBuffer, noteAnswer}
 use Rattle.desk.specs.Example.{NoteExample}
 

@@ -5,8 +5,8 @@ use mathlib.Core.List.{List, [], _∷_}
 use Prim.Native.Nat.{ℕ, _≤_}
 use lib.ListN.{length}
 use borrow.Author.Tests.{leb-true}
-use Rattle.integers.proofs.ChooseLaws.{choose-true, choose-false}
-use Rattle.refusals.proofs.Bools.{both-first, both-second}
+use Rattle.conditions.proofs.ChooseLaws.{choose-true, choose-false}
+use Rattle.conditions.proofs.Bools.{both-first, both-second}
 use Rattle.buffers.specs.Splice.{over}
 use Rattle.refusals.specs.Numbers.{misfit}
 use Rattle.desk.specs.Calls.{mostNote, noteFits, noteResult, noteBuffer, noteAnswer}

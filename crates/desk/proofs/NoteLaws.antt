@@ -6,16 +6,18 @@ use Prim.Native.Nat.{ℕ, _+_, _≤_}
 use native.Mathlib.Omega.{arith}
 use lib.ListN.{length}
 use borrow.Author.Tests.{eqb-true, leb-true}
-use Rattle.integers.specs.Choose.{choose}
-use Rattle.integers.proofs.ChooseLaws.{choose-true, choose-false}
+use Rattle.conditions.specs.Choose.{choose}
+use Rattle.conditions.specs.Both.{both}
+use Rattle.conditions.specs.Between.{between}
+use Rattle.conditions.proofs.ChooseLaws.{choose-true, choose-false}
+use Rattle.conditions.proofs.Bools.{by-bool, clash, both-first, both-second}
 use Rattle.refusals.specs.Numbers.{noVersion}
 use Rattle.refusals.specs.Outcome.{Outcome, good, refused, isGood}
-use Rattle.refusals.specs.Sweep.{both}
-use Rattle.refusals.proofs.Bools.{by-bool, clash, both-first, both-second}
 use Rattle.refusals.proofs.OutcomeLaws.{check-means, then-means}
 use Rattle.manager.specs.declared.State.{State}
 use Rattle.records.specs.Walk.{Walked, end, short, more}
-use Rattle.records.specs.Kinds.{newest, between, knows, rowOf, rowIn, table, Parts, takes, knownRule, judge}
+use Rattle.records.specs.Versions.{newest}
+use Rattle.records.specs.Kinds.{knows, rowOf, rowIn, table, Parts, takes, knownRule, judge}
 use Rattle.records.specs.Gather.{gather}
 use Rattle.records.proofs.RuleLaws.{judge-known}
 use Rattle.records.proofs.VersionLaws.{test-passed, after-good}

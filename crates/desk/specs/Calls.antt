@@ -6,9 +6,9 @@ use mathlib.Core.List.{List, [], _∷_}
 use Prim.Native.Nat.{ℕ}
 use lib.Dec.{leb}
 use lib.ListN.{length}
-use Rattle.integers.specs.Choose.{choose}
+use Rattle.conditions.specs.Choose.{choose}
+use Rattle.conditions.specs.Both.{both}
 use Rattle.refusals.specs.Numbers.{misfit}
-use Rattle.refusals.specs.Sweep.{both}
 use Rattle.buffers.specs.Splice.{over}
 use Rattle.records.specs.Kinds.{noteRow}
 

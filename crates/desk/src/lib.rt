@@ -10,9 +10,9 @@ ghost use Rattle.desk.specs.Calls.{mostNote, noteFits, noteResult, noteB
 ghost use Rattle.desk.specs.Example.{NoteExample};
 
 // The most bytes of a note, and the words of the answer to a note.
-const MOST_NOTE: usize = records::NOTE.high;
+const MOST_NOTE: usize = records::NOTE_ROW.high;
 
-const NOTE: usize = 1;
+const NOTE_ANSWER: usize = 1;
 
 // The number of this interface, by which a caller knows that the archive and the header belong together.
 #[no_mangle]
@@ -35,7 +35,7 @@ fn fits(buffer: usize, answer: usize) -> bool
     ensures { λ r. ⌜ r ≡ noteFits buffer answer ⌝ }
 {
     if MOST_NOTE <= buffer {
-        return NOTE <= answer;
+        return NOTE_ANSWER <= answer;
     }
     false
 }

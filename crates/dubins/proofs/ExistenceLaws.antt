@@ -6,7 +6,7 @@ use native.Mathlib.Nat.{lt-of-not-le}
 use native.Mathlib.Omega.{arith}
 use lib.Dec.{leb, ltb}
 use borrow.Author.Tests.{ltb-true, lt-ltb, leb-true, le-leb}
-use Rattle.integers.proofs.ChooseLaws.{choose-true, choose-false}
+use Rattle.conditions.proofs.ChooseLaws.{choose-true, choose-false}
 use Rattle.course.specs.declared.Vector.{Vector}
 use Rattle.course.specs.Vectors.{plain}
 use Rattle.plane.specs.Level.{squareOf}

@@ -7,7 +7,7 @@ use native.Mathlib.Nat.{mul-le-mul}
 use native.Mathlib.Omega.{arith}
 use lib.IntN.{ℤ, pos, _+ℤ_, _-ℤ_}
 use borrow.Author.Tests.{leb-true}
-use Rattle.integers.specs.Choose.{choose}
+use Rattle.conditions.specs.Choose.{choose}
 use Rattle.integers.proofs.Ring.{v, lit, add, sub, same, same-of}
 use Rattle.course.specs.declared.Vector.{Vector}
 use Rattle.course.specs.Vectors.{Near, plain}

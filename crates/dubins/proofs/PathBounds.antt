@@ -4,8 +4,8 @@ use mathlib.Core.Bool.{Bool, true, false}
 use Prim.Native.Nat.{ℕ, _+_, _-_, _*_, _≤_}
 use native.Mathlib.Omega.{arith}
 use lib.IntN.{ℤ, pos, _*ℤ_}
+use Rattle.conditions.specs.Choose.{choose}
 use Rattle.integers.specs.Bounds.{Within}
-use Rattle.integers.specs.Choose.{choose}
 use Rattle.integers.specs.Root.{rootOf}
 use Rattle.integers.proofs.BoundLaws.{within-plus, within-less, within-mul}
 use Rattle.integers.proofs.RootLaws.{root-lt}

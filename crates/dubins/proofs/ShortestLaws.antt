@@ -7,14 +7,14 @@ use native.Mathlib.Omega.{arith}
 use native.Mathlib.Decide.{decLt}
 use lib.Dec.{leb}
 use borrow.Author.Tests.{leb-true, leb-false, le-leb, lt-leb}
-use Rattle.integers.specs.Choose.{choose}
-use Rattle.integers.proofs.ChooseLaws.{choose-true, choose-false}
+use Rattle.conditions.specs.Choose.{choose}
+use Rattle.conditions.proofs.ChooseLaws.{choose-true, choose-false}
 use Rattle.dubins.specs.declared.Ends.{Ends}
 use Rattle.dubins.specs.declared.Circles.{Circles}
 use Rattle.dubins.specs.declared.Path.{Path}
 use Rattle.dubins.specs.declared.Found.{Found}
 use Rattle.dubins.specs.declared.Found.the-variants.{Shortest, Missing}
-use Rattle.dubins.specs.Cases.{circlesOf, caseExists, straightOf, courseOf, lengthOf, pathOf}
+use Rattle.dubins.specs.Cases.{circlesOf, caseExists, straightOf, straightCourse, caseLength, pathOf}
 use Rattle.dubins.specs.Choice.{casePath, shorterOf, shortestOf, hasPathOf, Wins, IsShortest, Chosen}
 
 -- ---- of two paths
@@ -34,7 +34,7 @@ only-later (Shortest q) = refl
 
 -- ---- one case, from its parts
 module _ (ends : Ends) (case : ℕ) where
-  pub case-there : (circles : Circles) (s θ : ℕ) → caseExists ends case ≡ true → circles ≡ circlesOf ends case → s ≡ straightOf case (ends .radius) (circles .v) → θ ≡ courseOf case (ends .radius) s (circles .v) → casePath ends case ≡ Shortest (pathOf ends case circles s θ)
+  pub case-there : (circles : Circles) (s θ : ℕ) → caseExists ends case ≡ true → circles ≡ circlesOf ends case → s ≡ straightOf case (ends .radius) (circles .v) → θ ≡ straightCourse case (ends .radius) s (circles .v) → casePath ends case ≡ Shortest (pathOf ends case circles s θ)
   unfolding casePath choose
   case-there circles s θ h e k l = simp (h, l, k, e)
 
@@ -43,7 +43,7 @@ module _ (ends : Ends) (case : ℕ) where
   case-absent h = simp h
 
   pub straight-part : (circles : Circles) (s θ : ℕ) → s ≤ pathOf ends case circles s θ .length
-  unfolding pathOf lengthOf
+  unfolding pathOf caseLength
   straight-part circles s θ = omega arith
 
 -- ---- found exactly when a case exists

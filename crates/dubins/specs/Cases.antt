@@ -4,7 +4,7 @@ use mathlib.Core.Bool.{Bool, not}
 use Prim.Native.Nat.{ℕ, _+_, _-_, _*_, _%_}
 use lib.Dec.{eqb, leb, ltb}
 use lib.IntN.{pos, _+ℤ_, _-ℤ_, _*ℤ_}
-use Rattle.integers.specs.Choose.{choose}
+use Rattle.conditions.specs.Choose.{choose}
 use Rattle.integers.specs.Root.{rootOf}
 use Rattle.integers.specs.Wrap.{wrapOf}
 use Rattle.course.specs.declared.Vector.{Vector}
@@ -58,17 +58,17 @@ innerTangent right R s v =
     (record { north = pos s *ℤ v .north +ℤ pos (2 * R) *ℤ v .east; east = pos s *ℤ v .east -ℤ pos (2 * R) *ℤ v .north })
 
 -- "course θ the bearing of v"; "θ the bearing of" the vector above
-unfoldable pub courseOf : ℕ → ℕ → ℕ → Vector → ℕ
-courseOf case R s v = bearingOf (choose (sameSide case) v (innerTangent (startsRight case) R s v))
+unfoldable pub straightCourse : ℕ → ℕ → ℕ → Vector → ℕ
+straightCourse case R s v = bearingOf (choose (sameSide case) v (innerTangent (startsRight case) R s v))
 
 -- "Turns, modulo 4096: θ−χs right or χs−θ left at the start; χe−θ right or θ−χe left at the end."
-unfoldable pub turnOf : ℕ → ℕ → Bool → ℕ
-turnOf from to right = choose right (wrapOf (pos to -ℤ pos from)) (wrapOf (pos from -ℤ pos to))
+unfoldable pub arcTurn : ℕ → ℕ → Bool → ℕ
+arcTurn from to right = choose right (wrapOf (pos to -ℤ pos from)) (wrapOf (pos from -ℤ pos to))
 
 -- "Length = straight + floor(R·(both turns)·355/231,424)."
-unfoldable pub lengthOf : Ends → ℕ → ℕ → ℕ → ℕ
-lengthOf ends case s θ =
-    s + arcOf (ends .radius) (turnOf (ends .leave) θ (startsRight case) + turnOf θ (ends .arrive) (endsRight case))
+unfoldable pub caseLength : Ends → ℕ → ℕ → ℕ → ℕ
+caseLength ends case s θ =
+    s + arcOf (ends .radius) (arcTurn (ends .leave) θ (startsRight case) + arcTurn θ (ends .arrive) (endsRight case))
 
 -- "z1 and z2 are the start and end centres + off(R, θ−1024) for right circles, + off(R, θ+1024) for left."
 unfoldable pub touchOf : Vector → ℕ → ℕ → Bool → Vector
@@ -80,7 +80,7 @@ pathOf ends case circles s θ =
     record {
       case = case;
       course = θ;
-      length = lengthOf ends case s θ;
+      length = caseLength ends case s θ;
       start = circles .start;
       end = circles .end;
       z1 = touchOf (circles .start) (ends .radius) θ (startsRight case);

@@ -4,7 +4,7 @@ use mathlib.Core.Logic.{_↔_}
 use mathlib.Core.Bool.{Bool, true, false, _||_}
 use Prim.Native.Nat.{ℕ, _*_, _≤_, _<_}
 use lib.Dec.{leb}
-use Rattle.integers.specs.Choose.{choose}
+use Rattle.conditions.specs.Choose.{choose}
 use Rattle.course.specs.Vectors.{plain}
 use Rattle.plane.specs.declared.Point.{Point}
 use Rattle.plane.specs.Area.{levelOf}
@@ -13,14 +13,14 @@ use Rattle.dubins.specs.declared.Ends.{Ends}
 use Rattle.dubins.specs.declared.Path.{Path}
 use Rattle.dubins.specs.declared.Found.{Found}
 use Rattle.dubins.specs.declared.Found.the-variants.{Shortest, Missing}
-use Rattle.dubins.specs.Cases.{circlesOf, caseExists, straightOf, courseOf, pathOf}
+use Rattle.dubins.specs.Cases.{circlesOf, caseExists, straightOf, straightCourse, pathOf}
 
 -- one case, where it exists
 unfoldable pub casePath : Ends → ℕ → Found
 casePath ends case =
     let circles = circlesOf ends case in
     let s = straightOf case (ends .radius) (circles .v) in
-    let θ = courseOf case (ends .radius) s (circles .v) in
+    let θ = straightCourse case (ends .radius) s (circles .v) in
     choose (caseExists ends case) (Shortest (pathOf ends case circles s θ)) Missing
 
 -- "Shortest wins, earliest on a tie."

@@ -4,20 +4,17 @@ use mathlib.Core.Path.{_≡_}
 use Prim.Native.Nat.{ℕ}
 use lib.IntN.{ℤ, pos, negsuc}
 use Rattle.course.specs.declared.Vector.{Vector}
-use Rattle.plane.specs.declared.Point.{Point}
+use Rattle.plane.specs.Samples.{point}
 use Rattle.dubins.specs.declared.Ends.{Ends}
 use Rattle.dubins.specs.declared.Found.the-variants.{Shortest}
 use Rattle.dubins.specs.Choice.{shortestOf}
 
-abbrev pub at : ℤ → ℤ → Point
-at n e = record { north = n; east = e; down = pos 0 }
-
 abbrev pub place : ℤ → ℤ → Vector
 place n e = record { north = n; east = e }
 
--- to a point and a course
+-- from there to a point and a course
 abbrev pub to : ℤ → ℤ → ℕ → Ends
-to n e χ = record { start = at (pos 0) (pos 0); leave = 0; end = at n e; arrive = χ; radius = 100 }
+to n e χ = record { start = point (pos 0) (pos 0) (pos 0); leave = 0; end = point n e (pos 0); arrive = χ; radius = 100 }
 
 -- negsuc n is −(n + 1)
 pub record HandLegs : Type 0 where

@@ -11,7 +11,7 @@ ghost use Rattle.plane.specs.Level.{minus};
 ghost use Rattle.dubins.specs.declared.Path.{Path};
 ghost use Rattle.dubins.specs.declared.Found.the-variants.{Shortest};
 ghost use Rattle.dubins.specs.Limits.{IsEnds, IsCircles, IsPath, IsFound};
-ghost use Rattle.dubins.specs.Cases.{startsRight, endsRight, sameSide, centreOf, circlesOf, tangentExists, straightOf, innerTangent, courseOf, turnOf, touchOf, pathOf, caseExists};
+ghost use Rattle.dubins.specs.Cases.{startsRight, endsRight, sameSide, centreOf, circlesOf, tangentExists, straightOf, innerTangent, straightCourse, arcTurn, touchOf, pathOf, caseExists};
 ghost use Rattle.dubins.specs.Choice.{casePath, shorterOf, shortestOf, hasPathOf, farApart, Chosen, Existence};
 ghost use Rattle.dubins.specs.HandLegs.{HandLegs};
 ghost use Rattle.dubins.specs.Ways.{AreCentres, IsWay, IsTried, pathAlong, foundBy};
@@ -112,7 +112,7 @@ fn circles_at(start: Vector, end: Vector) -> Circles
     requires { ⌜ Near 510000 start × Near 510000 end ⌝ }
     ensures { λ r. ⌜ (r ≡ record { start = start; end = end; v = minus end start }) × IsCircles r ⌝ }
 {
-    let v = plane::between(start, end);
+    let v = plane::vector_between(start, end);
     Circles { start, end, v }
 }
 
@@ -194,7 +194,7 @@ fn inner_tangent(v: Vector, s: u64, radius: u64, right: bool) -> Vector
 // The course of the straight part of length s.
 fn straight_course(v: Vector, s: u64, radius: u64, case: u8) -> usize
     requires { ⌜ Near 1020000 v × ((s ≤ 1442497) × (radius ≤ 10000)) ⌝ }
-    ensures { λ r. ⌜ (r ≡ courseOf case radius s v) × (r < 4096) ⌝ }
+    ensures { λ r. ⌜ (r ≡ straightCourse case radius s v) × (r < 4096) ⌝ }
 {
     if same_side(case) {
         course::bearing(v)
@@ -206,7 +206,7 @@ fn straight_course(v: Vector, s: u64, radius: u64, case: u8) -> usize
 // How far a right or a left turn goes from one course to another.
 fn turn(from: usize, to: usize, right: bool) -> u64
     requires { ⌜ (from < 4096) × (to < 4096) ⌝ }
-    ensures { λ r. ⌜ (r ≡ turnOf from to right) × (r < 4096) ⌝ }
+    ensures { λ r. ⌜ (r ≡ arcTurn from to right) × (r < 4096) ⌝ }
 {
     if right {
         ((to + 4096 - from) % 4096) as u64
@@ -375,6 +375,6 @@ pub fn far_apart(a: Point, b: Point, radius: u64) -> bool
     requires { ⌜ InArea a × (InArea b × (radius ≤ 10000)) ⌝ }
     ensures { λ r. ⌜ r ≡ farApart a b radius ⌝ }
 {
-    let d = plane::between(plane::level(a), plane::level(b));
+    let d = plane::vector_between(plane::level(a), plane::level(b));
     9 * radius * radius <= plane::squared(d)
 }

@@ -30,9 +30,9 @@ ghost use Rattle.course.specs.Vectors.{Near};
 ghost use Rattle.plane.specs.Area.{InArea};
 
 // The first byte of a block.
-const STATE: u8 = 0x53;
+const STATE_LETTER: u8 = 0x53;
 
-const FIX: u8 = 0x46;
+const FIX_LETTER: u8 = 0x46;
 
 // The bytes of a fix, and those of a state before the list of its points.
 const FIX_SIZE: usize = 17;
@@ -40,12 +40,12 @@ const FIX_SIZE: usize = 17;
 const TO_POINTS: usize = 10;
 
 // The length of io::large_buffer.
-const ROOM: usize = 65536;
+const LARGE_BUFFER: usize = 65536;
 
 // Room for a number, and for a refusal.
 const DIGITS: usize = 21;
 
-const REFUSAL: usize = 52;
+const REFUSAL_ROOM: usize = 52;
 
 fn write(text: &[u8]) {
     console::write(text, text.len());
@@ -64,7 +64,7 @@ fn write_number(x: i64) {
 }
 
 fn write_refusal(number: u8, place: usize) {
-    let mut line = [0u8; REFUSAL];
+    let mut line = [0u8; REFUSAL_ROOM];
     let end = text::put_refusal(number as u64, place as u64, 0, &mut line);
     console::write(&line, end);
 }
@@ -261,7 +261,7 @@ fn put_u16(value: u16, at: usize, file: &mut [u8])
 
 // Whether the newest reader loads a file.
 fn write_verdict(file: &[u8]) {
-    let loaded = wpl::load(file, wpl::NEWEST);
+    let loaded = wpl::load(file, records::NEWEST);
     if loaded.refusal == 0 {
         write(b" loads\n");
     } else {
@@ -272,16 +272,16 @@ fn write_verdict(file: &[u8]) {
 }
 
 fn show_fillet_plan(radius: u16) {
-    let mut file = plans::FILLETS;
-    put_u16(radius, plans::RADIUS, &mut file);
+    let mut file = plans::FILLETS_FILE;
+    put_u16(radius, plans::RADIUS_BYTE, &mut file);
     write(b"fillet R ");
     write_decimal(radius as u64);
     write_verdict(&file);
 }
 
 fn show_dubins_plan(east: u16) {
-    let mut file = plans::DUBINS;
-    put_u16(east, plans::EAST, &mut file);
+    let mut file = plans::DUBINS_FILE;
+    put_u16(east, plans::EAST_BYTE, &mut file);
     write(b"dubins to (0,");
     write_decimal(east as u64);
     write(b")");
@@ -320,14 +320,18 @@ fn listed(s: &[u8], i: usize) -> usize
     ensures { λ r. ⌜ r ≤ 64 ⌝ }
 {
     let n = byte_at(s, i) as usize;
-    if n <= plan::POINTS { n } else { plan::POINTS }
+    if n <= plan::MOST_POINTS {
+        n
+    } else {
+        plan::MOST_POINTS
+    }
 }
 
 // A number of each point of a state at i: the one so many bytes into the point.
-fn numbers_at(s: &[u8], i: usize, into: usize) -> [i32; plan::POINTS]
+fn numbers_at(s: &[u8], i: usize, into: usize) -> [i32; plan::MOST_POINTS]
     requires { ⌜ (i ≤ 66000) × (into ≤ 8) ⌝ }
 {
-    let mut numbers = [0i32; plan::POINTS];
+    let mut numbers = [0i32; plan::MOST_POINTS];
     let list = i + TO_POINTS;
     let n = listed(s, list);
     let mut k: usize = 0;
@@ -339,10 +343,10 @@ fn numbers_at(s: &[u8], i: usize, into: usize) -> [i32; plan::POINTS]
 }
 
 // The courses of a list at i.
-fn courses_at(s: &[u8], i: usize) -> [i32; plan::POINTS]
+fn courses_at(s: &[u8], i: usize) -> [i32; plan::MOST_POINTS]
     requires { ⌜ i ≤ 67000 ⌝ }
 {
-    let mut courses = [0i32; plan::POINTS];
+    let mut courses = [0i32; plan::MOST_POINTS];
     let n = listed(s, i);
     let mut k: usize = 0;
     while k < n {
@@ -412,8 +416,8 @@ fn state_size(s: &[u8], i: usize) -> usize
     let points = byte_at(s, i + TO_POINTS) as usize;
     let courses = byte_at(s, to_courses(s, i)) as usize;
     if byte_at(s, i + 5) <= 2 {
-        if points <= plan::POINTS {
-            if courses <= plan::POINTS {
+        if points <= plan::MOST_POINTS {
+            if courses <= plan::MOST_POINTS {
                 return past_courses(s, i) + 4 - i;
             }
         }
@@ -427,10 +431,10 @@ fn block_size(s: &[u8], i: usize) -> usize
     ensures { λ r. ⌜ r ≤ 1000 ⌝ }
 {
     let kind = byte_at(s, i);
-    if kind == FIX {
+    if kind == FIX_LETTER {
         return FIX_SIZE;
     }
-    if kind == STATE {
+    if kind == STATE_LETTER {
         return state_size(s, i);
     }
     0
@@ -488,7 +492,7 @@ fn fly_blocks(s: &[u8])
         if size == 0 {
             return;
         }
-        if s[i] == FIX {
+        if s[i] == FIX_LETTER {
             fixes += 1;
             state = fly_fix(s, i, fixes, state);
         } else {
@@ -503,7 +507,7 @@ fn fly_blocks(s: &[u8])
 fn fly() {
     let mut space = io::large_buffer();
     let n = io::read_full(STDIN_FILENO, &mut space);
-    if n < ROOM {
+    if n < LARGE_BUFFER {
         fly_blocks(&space[..n]);
     } else {
         write(b"input longer than 65535 bytes\n");

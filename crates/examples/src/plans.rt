@@ -1,7 +1,7 @@
 // Plan files of document 01's checked examples, each with one number left to be filled in.
 
 // Fillets from (0,0) over (1000,0) to (1000,1000), and where the radius stands.
-pub const FILLETS: [u8; 57] = [
+pub const FILLETS_FILE: [u8; 57] = [
     0x57,
     0x50,
     0x4C,
@@ -61,11 +61,11 @@ pub const FILLETS: [u8; 57] = [
     0,
 ];
 
-pub const RADIUS: usize = 13;
+pub const RADIUS_BYTE: usize = 13;
 
 // Dubins with R 100, from (0,0) to (0,east) and (0,5000), course 0 at each, and where the lower half of that east stands. The third point is
 // far from the second, so that only the first leg can be at fault.
-pub const DUBINS: [u8; 69] = [
+pub const DUBINS_FILE: [u8; 69] = [
     0x57,
     0x50,
     0x4C,
@@ -137,4 +137,4 @@ pub const DUBINS: [u8; 69] = [
     0,
 ];
 
-pub const EAST: usize = 41;
+pub const EAST_BYTE: usize = 41;

@@ -1,6 +1,6 @@
 -- The corners that were worked out by hand are what the definitions give: the prover computes them. Assumes nothing.
 use mathlib.Core.Path.{refl}
-use Rattle.integers.specs.Choose.{choose}
+use Rattle.conditions.specs.Choose.{choose}
 use Rattle.integers.specs.Round.{nearestOf}
 use Rattle.integers.specs.Wrap.{wrapOf}
 use Rattle.course.specs.Table.{series, scaledSine, sineOf}

@@ -5,7 +5,7 @@ use Prim.Native.Nat.{ℕ, _+_, _-_, _*_, _/_, _≤_}
 use lib.Dec.{leb}
 use lib.IntN.{pos, negsuc, natAbs, _+ℤ_, _-ℤ_, _*ℤ_}
 use lib.Signed.{leZ, _≤ℤ_, _<ℤ_}
-use Rattle.integers.specs.Choose.{choose}
+use Rattle.conditions.specs.Choose.{choose}
 use Rattle.integers.specs.Wrap.{wrapOf}
 use Rattle.course.specs.declared.Vector.{Vector}
 use Rattle.course.specs.Vectors.{Near, plain, cross}
@@ -24,8 +24,8 @@ lesserTurn j k = choose (leb (wrapOf (pos k -ℤ pos j)) 2048) (wrapOf (pos k -�
 unfoldable pub turnBetween : Vector → Vector → ℕ
 turnBetween a b = lesserTurn (bearingOf a) (bearingOf b)
 
-unfoldable pub turnOf : Point → Point → Point → ℕ
-turnOf before point after = turnBetween (levelLegOf before point) (levelLegOf point after)
+unfoldable pub cornerTurn : Point → Point → Point → ℕ
+cornerTurn before point after = turnBetween (levelLegOf before point) (levelLegOf point after)
 
 -- "(C, S) = D(τ); tangent length T = floor(R·S / (16,384 + C))". It is asked for τ up to 1,792 only, where S ≥ 0 and 16,384 + C > 0.
 unfoldable pub tangentOf : ℕ → ℕ → ℕ
@@ -57,7 +57,7 @@ roundedOf point j k right R T =
 unfoldable pub cornerOf : Point → Point → Point → ℕ → Corner
 cornerOf before point after R =
     roundedOf (levelOf point) (bearingOf (levelLegOf before point)) (bearingOf (levelLegOf point after))
-    (rightOf (levelLegOf before point) (levelLegOf point after)) R (tangentOf R (turnOf before point after))
+    (rightOf (levelLegOf before point) (levelLegOf point after)) R (tangentOf R (cornerTurn before point after))
 
 -- for proofs alone, worked out by hand: the steepest turn of the widest radius, and at (1000,0), from north to west, a corner of tangent length 100 and R 200
 pub record HandCorners : Type 0 where

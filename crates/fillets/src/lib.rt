@@ -5,7 +5,7 @@ ghost use mathlib.Core.Path.{_≡_};
 ghost use Prim.Native.Nat.{ℕ, _≤_, _<_};
 ghost use Rattle.course.specs.Vectors.{Near};
 ghost use Rattle.plane.specs.Area.{InArea};
-ghost use Rattle.fillets.specs.Corners.{lesserTurn, turnBetween, turnOf, tangentOf, IsTangent, rightOf, roundedOf, cornerOf, HandCorners, IsCorner};
+ghost use Rattle.fillets.specs.Corners.{lesserTurn, turnBetween, cornerTurn, tangentOf, IsTangent, rightOf, roundedOf, cornerOf, HandCorners, IsCorner};
 
 // The arc of a corner: its tangent length, whether it turns right (sense +1), where the line ends and begins again, and its centre.
 pub struct Corner {
@@ -38,7 +38,7 @@ fn turn_between(a: Vector, b: Vector) -> usize
 // The turn at a point between two others.
 pub fn turn_at(before: Point, point: Point, after: Point) -> usize
     requires { ⌜ InArea before × (InArea point × InArea after) ⌝ }
-    ensures { λ r. ⌜ (r ≡ turnOf before point after) × (r ≤ 2048) ⌝ }
+    ensures { λ r. ⌜ (r ≡ cornerTurn before point after) × (r ≤ 2048) ⌝ }
 {
     let a = plane::level_leg(before, point);
     let b = plane::level_leg(point, after);
@@ -72,7 +72,7 @@ fn rounded(point: Vector, j: usize, k: usize, right: bool, radius: u64, t: u64) 
     ensures { λ r. ⌜ (r ≡ roundedOf point j k right radius t) × IsCorner r ⌝ }
     ensures { λ _. ⌜ HandCorners ⌝ }
 {
-    let z1 = plane::between(course::offset(t, j), point);
+    let z1 = plane::vector_between(course::offset(t, j), point);
     let z2 = plane::sum(point, course::offset(t, k));
     let side = plane::sideways(j, right);
     let centre = plane::sum(z1, course::offset(radius, side));
@@ -87,7 +87,7 @@ fn rounded(point: Vector, j: usize, k: usize, right: bool, radius: u64, t: u64) 
 
 // The corner at a point between two others whose turn is at most 1,792.
 pub fn round_corner(before: Point, point: Point, after: Point, radius: u64) -> Corner
-    requires { ⌜ (InArea before × (InArea point × InArea after)) × ((radius ≤ 10000) × (turnOf before point after ≤ 1792)) ⌝ }
+    requires { ⌜ (InArea before × (InArea point × InArea after)) × ((radius ≤ 10000) × (cornerTurn before point after ≤ 1792)) ⌝ }
     ensures { λ r. ⌜ (r ≡ cornerOf before point after radius) × IsCorner r ⌝ }
 {
     let a = plane::level_leg(before, point);

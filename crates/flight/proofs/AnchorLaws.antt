@@ -8,9 +8,9 @@ use native.Mathlib.Omega.{arith}
 use lib.Dec.{eqb}
 use lib.Ieee.{Float}
 use borrow.Author.Tests.{eqb-true, eqb-false}
+use Rattle.conditions.proofs.Bools.{by-bool}
 use Rattle.refusals.specs.Outcome.{Outcome, good, refused}
 use Rattle.refusals.specs.Sweep.{done}
-use Rattle.refusals.proofs.Bools.{by-bool}
 use Rattle.plane.specs.declared.Point.{Point}
 use Rattle.units.specs.declared.Position.the-variants.{At}
 use Rattle.units.specs.Position.{positionOf}

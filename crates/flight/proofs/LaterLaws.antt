@@ -10,7 +10,8 @@ use Rattle.refusals.specs.Outcome.{good}
 use Rattle.refusals.specs.Sweep.{done}
 use Rattle.manager.specs.declared.State.{State}
 use Rattle.records.specs.Walk.{Walked, walk, flat}
-use Rattle.records.specs.Kinds.{newest, Parts, noParts, sift}
+use Rattle.records.specs.Versions.{newest}
+use Rattle.records.specs.Kinds.{Parts, noParts, sift}
 use Rattle.records.specs.Gather.{headerLength}
 use Rattle.records.proofs.WalkLaws.{flat-walk}
 use Rattle.records.proofs.CutLaws.{cut-out, sift-fills, sift-shorter}

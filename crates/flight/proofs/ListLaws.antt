@@ -8,7 +8,7 @@ use lib.Dec.{leb}
 use lib.ListN.{length, drop}
 use lib.Ieee.{Float}
 use borrow.Author.Tests.{leb-true, leb-false, le-leb, lt-leb, eqb-true, eq-eqb, ne-eqb}
-use Rattle.refusals.proofs.Bools.{by-bool, both-on, both-off, both-off-second, both-first, both-second}
+use Rattle.conditions.proofs.Bools.{by-bool, both-on, both-off, both-off-second, both-first, both-second}
 use Rattle.buffers.specs.Splice.{over, splice}
 use Rattle.buffers.proofs.SpliceLaws.{further, unchanged, at-front}
 use Rattle.manager.specs.declared.State.{State}

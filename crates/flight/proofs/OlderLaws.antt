@@ -6,13 +6,14 @@ use mathlib.Core.Bool.{true, false}
 use mathlib.Core.List.{List}
 use Prim.Native.Nat.{ℕ, _≤_}
 use native.Mathlib.Omega.{arith}
-use lib.Dec.{leb}
-use borrow.Author.Tests.{le-leb}
+use Rattle.conditions.specs.Between.{between}
+use Rattle.conditions.proofs.Bools.{by-bool}
+use Rattle.conditions.proofs.BetweenLaws.{between-test}
 use Rattle.refusals.specs.Outcome.{good, andThen}
-use Rattle.refusals.proofs.Bools.{by-bool, both-true}
 use Rattle.refusals.proofs.OutcomeLaws.{never-good}
 use Rattle.manager.specs.declared.State.{State}
-use Rattle.records.specs.Kinds.{newest, between, noParts, holdsNewer}
+use Rattle.records.specs.Versions.{newest}
+use Rattle.records.specs.Kinds.{noParts, holdsNewer}
 use Rattle.records.specs.Gather.{headerLength}
 use Rattle.records.proofs.VersionLaws.{older-refuses, older-takes}
 use Rattle.wpl.specs.Header.{versionOf}
@@ -31,8 +32,7 @@ module _ (r : ℕ) where
   older-most (inr e) = omega arith
 
   older-served : IsOlder r → between 1 newest r ≡ true
-  unfolding between
-  older-served o = both-true (leb 1 r) (leb r newest) (le-leb 1 r (older-least o)) (le-leb r newest (older-most o))
+  older-served o = between-test 1 newest r (older-least o) (older-most o)
 
 module _ (f : List ℕ) (s : State) (loads : Loads 3 f s) (r : ℕ) (older : IsOlder r) where
   newest-steps : Steps newest f s

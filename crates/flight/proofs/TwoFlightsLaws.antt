@@ -8,8 +8,8 @@ use lib.Dec.{eqb}
 use lib.ListN.{length}
 use lib.Ieee.{Float}
 use borrow.Author.Tests.{eq-eqb}
+use Rattle.conditions.proofs.Bools.{by-bool, clash}
 use Rattle.refusals.specs.Outcome.{Outcome, good, refused, isGood, refusalOf}
-use Rattle.refusals.proofs.Bools.{by-bool, clash}
 use Rattle.refusals.proofs.OutcomeLaws.{Proper, proper-check, check-true, check-means}
 use Rattle.manager.specs.declared.State.{State}
 use Rattle.manager.specs.State.{emptyState}

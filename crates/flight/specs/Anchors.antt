@@ -6,6 +6,7 @@ use mathlib.Core.List.{List, [], _∷_}
 use mathlib.Core.Logic.{_⊎_, _↔_}
 use Prim.Native.Nat.{ℕ, _≤_, _<_}
 use lib.Ieee.{Float}
+use Rattle.conditions.specs.All.{All}
 use Rattle.refusals.specs.Outcome.{good}
 use Rattle.refusals.specs.Sweep.{done}
 use Rattle.plane.specs.declared.Point.{Point}
@@ -25,7 +26,7 @@ use Rattle.flight.specs.Run.{Named, stepBy, run, Alike, AlikeRuns}
 use Rattle.flight.specs.Demand.{IsOlder, Loads, RefusesAsTooNew, IsCut, IsLater, Demand}
 use Rattle.flight.specs.Flight.{lastOf}
 use Rattle.flight.specs.TwoFlights.{flownWith, answersWith, commandsWith, OlderFlights}
-use Rattle.flight.specs.Witnesses.{All, claims}
+use Rattle.flight.specs.Witnesses.{ClaimHolds, claims}
 
 -- demand 3 with none of its own words: readers by their numbers, loads and runs as the contracts have them, the cut file by its bytes
 pub record Outright : Type 0 where
@@ -57,7 +58,7 @@ pub record Anchored : Type 0 where
   -- whatever is the cut of a later file loads as that file does
   pub cut : (f g : List ℕ) → IsLater f → IsCut f g → (s : State) → Loads 3 f s ↔ Loads 3 g s
   -- there are such files, in bytes
-  pub files : All claims
+  pub files : All ClaimHolds claims
   pub outright : Demand → Outright
   -- where reader three flies, reader one's flight and reader two's are refused as too new, or they are the same
   pub flights : (f serials : List ℕ) (fixes : List Float) (answers : List ℕ) (commands : List Float) → OlderFlights f serials fixes answers commands

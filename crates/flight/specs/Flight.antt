@@ -5,8 +5,8 @@ use Prim.Native.Nat.{ℕ, zero, suc, _+_, _*_}
 use lib.Dec.{eqb, leb}
 use lib.ListN.{length, getD}
 use lib.Ieee.{Float, nan}
+use Rattle.conditions.specs.Both.{both}
 use Rattle.refusals.specs.Outcome.{Outcome, good, refused, check}
-use Rattle.refusals.specs.Sweep.{both}
 use Rattle.buffers.specs.Splice.{over}
 use Rattle.units.specs.declared.Fix.{Fix}
 use Rattle.manager.specs.declared.State.{State}

@@ -5,13 +5,13 @@ use mathlib.Core.Bool.{false}
 use mathlib.Core.List.{List, [], _∷_, _++_}
 use Prim.Native.Nat.{ℕ, _-_}
 use lib.IntN.{ℤ, pos, negsuc}
-use lib.Ieee.{binary32, ofBits}
 use lib.ListN.{length, replicate}
 use Rattle.refusals.specs.Outcome.{good, refused}
 use Rattle.plane.specs.declared.Point.{Point}
 use Rattle.units.specs.declared.Fix.{Fix}
 use Rattle.units.specs.declared.Position.the-variants.{At}
 use Rattle.units.specs.Position.{positionOf}
+use Rattle.units.specs.CheckedExamples.{fixOf}
 use Rattle.plan.specs.declared.Mode.{Mode}
 use Rattle.plan.specs.declared.Mode.the-variants.{Lines, Fillets, Dubins}
 use Rattle.manager.specs.declared.State.{State}
@@ -76,8 +76,8 @@ cutFile =
 
 -- ---- the state that they load to, by mode, radius and courses: serial 7, points (0, 0, −1000), (1000, 0, −1000) and (1000, 2000, −1000), unused
 -- places zero, at the start
-abbrev pub filled : List ℤ → List ℤ
-filled xs = xs ++ replicate (64 - length xs) (pos 0)
+abbrev pub withZeros : List ℤ → List ℤ
+withZeros xs = xs ++ replicate (64 - length xs) (pos 0)
 
 abbrev pub stateOf : Mode → ℕ → List ℤ → State
 stateOf mode R courses =
@@ -85,10 +85,10 @@ stateOf mode R courses =
       plan =
           record {
             head = record { serial = 7; mode = mode; radius = R; count = 3 };
-            norths = filled (pos 0 ∷ pos 1000 ∷ pos 1000 ∷ []);
-            easts = filled (pos 0 ∷ pos 0 ∷ pos 2000 ∷ []);
-            downs = filled (negsuc 999 ∷ negsuc 999 ∷ negsuc 999 ∷ []);
-            courses = filled courses;
+            norths = withZeros (pos 0 ∷ pos 1000 ∷ pos 1000 ∷ []);
+            easts = withZeros (pos 0 ∷ pos 0 ∷ pos 2000 ∷ []);
+            downs = withZeros (negsuc 999 ∷ negsuc 999 ∷ negsuc 999 ∷ []);
+            courses = withZeros courses;
           };
       progress = record { index = 2; phase = 1; finished = false };
     }
@@ -103,15 +103,15 @@ abbrev pub dubinsState : State
 dubinsState = stateOf Dubins 200 (pos 0 ∷ pos 0 ∷ pos 2048 ∷ [])
 
 -- 50 m east of the first point, which is 500 decimetres beside the first leg: 0x42480000 is 50.0 and 0xC2C80000 is −100.0
-abbrev pub fix : Fix
-fix = record { north = ofBits binary32 0; east = ofBits binary32 0x4248_0000; down = ofBits binary32 0xC2C8_0000 }
+abbrev pub besideLeg : Fix
+besideLeg = fixOf 0 0x4248_0000 0xC2C8_0000
 
 -- ---- what a claim says
 pub data Claim : Type 0 where
   -- a reader loads a file to a state
   loads : ℕ → List ℕ → State → Claim
   -- a reader refuses a file, with a number at a place
-  refuses : ℕ → List ℕ → ℕ → ℕ → Claim
+  refusesFile : ℕ → List ℕ → ℕ → ℕ → Claim
   -- a state is written at a version, into room for just that file
   writes : State → ℕ → List ℕ → Claim
   -- a file is marked later, and this is left of it
@@ -119,20 +119,16 @@ pub data Claim : Type 0 where
   -- a file is not marked later
   stays : List ℕ → Claim
   -- a fix that names the state's serial is at a point, and is flown with a heading
-  heads : State → Fix → Point → ℕ → Claim
+  steers : State → Fix → Point → ℕ → Claim
 
-abbrev pub Holds : Claim → Type 0
-Holds (loads r f s) = Loads r f s
-Holds (refuses r f number place) = loadOf r f ≡ refused number place
-Holds (writes s version f) = writeOf s version (length f) ≡ good f
-Holds (cuts f g) = IsLater f × (cutOut f ≡ g)
-Holds (stays f) = IsLater f → ⊥
-Holds (heads s fix p heading) =
+abbrev pub ClaimHolds : Claim → Type 0
+ClaimHolds (loads r f s) = Loads r f s
+ClaimHolds (refusesFile r f number place) = loadOf r f ≡ refused number place
+ClaimHolds (writes s version f) = writeOf s version (length f) ≡ good f
+ClaimHolds (cuts f g) = IsLater f × (cutOut f ≡ g)
+ClaimHolds (stays f) = IsLater f → ⊥
+ClaimHolds (steers s fix p heading) =
     (positionOf fix ≡ At p) × ((stepOf s (s .plan .head .serial) fix .answer .refusal ≡ 0) × (stepOf s (s .plan .head .serial) fix .answer .heading ≡ heading))
-
-abbrev pub All : List Claim → Type 0
-All [] = Unit {0}
-All (x ∷ xs) = Holds x × All xs
 
 abbrev pub claims : List Claim
 claims =
@@ -140,15 +136,15 @@ claims =
     ∷ loads 1 linesFile linesState
     ∷ loads 2 linesFile linesState
     ∷ loads 3 linesFile linesState
-    ∷ refuses 1 filletsFile 7 11
+    ∷ refusesFile 1 filletsFile 7 11
     ∷ loads 2 filletsFile filletsState
     ∷ loads 3 filletsFile filletsState
-    ∷ refuses 1 dubinsFile 7 11
-    ∷ refuses 2 dubinsFile 7 29
+    ∷ refusesFile 1 dubinsFile 7 11
+    ∷ refusesFile 2 dubinsFile 7 29
     ∷ loads 3 dubinsFile dubinsState
     ∷ cuts laterFile cutFile
     ∷ loads 3 laterFile linesState
     ∷ loads 3 cutFile linesState
     ∷ stays dubinsFile
-    ∷ heads linesState fix (record { north = pos 0; east = pos 500; down = negsuc 999 }) 3712
+    ∷ steers linesState besideLeg (record { north = pos 0; east = pos 500; down = negsuc 999 }) 3712
     ∷ []

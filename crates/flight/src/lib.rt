@@ -16,7 +16,7 @@ ghost use Rattle.flight.specs.Anchors.{Anchored};
 ghost use Rattle.flight.specs.Flight.{fixAt, namedOf, answersOf, commandsOf, lastOf, fitsOf, flownOf, answersAfter, commandsAfter};
 
 // How many numbers a fix has.
-pub const FIX: usize = 3;
+pub const FIX_NUMBERS: usize = 3;
 
 // The state after the last fix, or a refusal with its place.
 pub struct Flown {
@@ -29,8 +29,8 @@ pub struct Flown {
 fn fits(count: usize, fixes: usize, answers: usize, commands: usize) -> bool
     ensures { λ r. ⌜ r ≡ fitsOf count fixes answers commands ⌝ }
 {
-    if fixes % FIX == 0 {
-        if fixes / FIX == count {
+    if fixes % FIX_NUMBERS == 0 {
+        if fixes / FIX_NUMBERS == count {
             if count <= answers / c_answer::ANSWER {
                 return count <= commands / c_answer::COMMAND;
             }
@@ -44,7 +44,7 @@ fn fix_at(fixes: &[f32], i: usize) -> Fix
     requires { ⌜ 3 * i + 2 < length (now fixes) ⌝ }
     ensures { λ r. ⌜ r ≡ fixAt (now (fixes .entry)) i ⌝ }
 {
-    let at = FIX * i;
+    let at = FIX_NUMBERS * i;
     Fix {
         north: fixes[at],
         east: fixes[at + 1],

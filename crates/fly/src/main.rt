@@ -28,9 +28,9 @@ const TEN: u64 = 10;
 const MOST_PLAN: usize = 8204;
 
 // The bytes of a fix, and of its serial and of each of its numbers.
-const FIX: usize = 16;
+const FIX_BYTES: usize = 16;
 
-const WORD: usize = 4;
+const WORD_BYTES: usize = 4;
 
 // How many fixes a chunk has: those of io::buffer.
 const CHUNK: usize = 256;
@@ -48,7 +48,7 @@ const COMMANDS: usize = 1536;
 const MOST_FIXES: u64 = 1152921504606846976;
 
 // Room for a line that is no fix's.
-const LINE: usize = 64;
+const LINE_ROOM: usize = 64;
 
 enum Parsed {
     Number(u32),
@@ -180,7 +180,7 @@ fn unpack_serials(bytes: &[u8], count: usize, serials: &mut [u32])
 {
     let mut i: usize = 0;
     while i < count {
-        serials[i] = u32_at(bytes, FIX * i);
+        serials[i] = u32_at(bytes, FIX_BYTES * i);
         i += 1;
     }
 }
@@ -191,7 +191,7 @@ fn unpack_positions(bytes: &[u8], count: usize, positions: &mut [f32])
 {
     let mut i: usize = 0;
     while i < count {
-        let at = FIX * (i / flight::FIX) + WORD * (1 + i % flight::FIX);
+        let at = FIX_BYTES * (i / flight::FIX_NUMBERS) + WORD_BYTES * (1 + i % flight::FIX_NUMBERS);
         positions[i] = float(u32_at(bytes, at));
         i += 1;
     }
@@ -208,7 +208,7 @@ fn show(number: u64, answer: &[u32], numbers: &[f32])
 
 // The line of a plan that is refused.
 fn show_refusal(refusal: u8, place: usize) {
-    let mut line = [0u8; LINE];
+    let mut line = [0u8; LINE_ROOM];
     let last = text::put_refusal(refusal as u64, place as u64, 0, &mut line);
     let end = text::put_byte(b'\n', last, &mut line);
     console::write(&line, end);
@@ -258,7 +258,7 @@ fn fly_shown(
     requires { ⌜ (count ≤ length (now serials)) × (3 * count ≤ length (now positions)) ⌝ }
     requires { ⌜ (8 * count ≤ length (now answers)) × (6 * count ≤ length (now commands)) ⌝ }
 {
-    let numbers = flight::FIX * count;
+    let numbers = flight::FIX_NUMBERS * count;
     let flown = fly_lists(
         before,
         plan,
@@ -289,9 +289,9 @@ fn fly_lent(
     requires { ⌜ (length (now serials) ≡ 256) × (length (now positions) ≡ 768) ⌝ }
     requires { ⌜ (length (now answers) ≡ 2048) × (length (now commands) ≡ 1536) ⌝ }
 {
-    let count = bytes.len() / FIX;
+    let count = bytes.len() / FIX_BYTES;
     unpack_serials(bytes, count, serials);
-    unpack_positions(bytes, flight::FIX * count, positions);
+    unpack_positions(bytes, flight::FIX_NUMBERS * count, positions);
     fly_shown(before, plan, count, serials, positions, answers, commands)
 }
 
@@ -321,12 +321,12 @@ fn tell_cut(name: &[u8], filled: Filled, flown: u64)
     if filled.failed {
         return;
     }
-    if filled.count % FIX == 0 {
+    if filled.count % FIX_BYTES == 0 {
         return;
     }
     complain(name);
-    let mut line = [0u8; LINE];
-    let number = flown + (filled.count / FIX) as u64 + 1;
+    let mut line = [0u8; LINE_ROOM];
+    let number = flown + (filled.count / FIX_BYTES) as u64 + 1;
     let last = text::put_count(b": fix ", number, 0, &mut line);
     let end = text::put_text(b" is cut short\n", last, &mut line);
     console::complain(&line, end);

@@ -4,7 +4,7 @@ use mathlib.Core.Bool.{Bool, true, false}
 use Prim.Native.Nat.{ℕ, _+_, _≤_}
 use lib.Dec.{eqb, ltb, leb→le}
 use lib.IntN.{pos}
-use Rattle.integers.specs.Choose.{choose}
+use Rattle.conditions.specs.Choose.{choose}
 use Rattle.integers.proofs.BoundLaws.{within-weaken, within-lit}
 use Rattle.course.specs.declared.Vector.{Vector}
 use Rattle.course.specs.Vectors.{Near}
@@ -19,7 +19,7 @@ use Rattle.plane.specs.Level.{plus, sidewaysOf}
 use Rattle.plane.proofs.LevelLaws.{plus-near}
 use Rattle.plane.proofs.LegLaws.{leg-is}
 use Rattle.units.proofs.QuotientLaws.{metres-plain, direction-plain}
-use Rattle.fillets.specs.Corners.{turnOf, cornerOf}
+use Rattle.fillets.specs.Corners.{cornerTurn, cornerOf}
 use Rattle.fillets.proofs.TangentLaws.{tangent-le}
 use Rattle.fillets.proofs.CornerLaws.{rounded-is}
 use Rattle.dubins.specs.declared.Ends.{Ends}
@@ -93,12 +93,12 @@ unfolding circleGuide
 circle-command centre height R right passed p h k r = circle-is centre height R right h k r
 
 -- ---- fillets
-centre-near : (a b c : Point) (R : ℕ) → InArea b → R ≤ 10000 → turnOf a b c ≤ 1792 → Near 1000000 (cornerOf a b c R .centre)
+centre-near : (a b c : Point) (R : ℕ) → InArea b → R ≤ 10000 → cornerTurn a b c ≤ 1792 → Near 1000000 (cornerOf a b c R .centre)
 unfolding cornerOf
 centre-near a b c R h r t =
-    near-le (leb→le 560280 1000000 tt) (rounded-is (levelOf b) _ _ (level-near b h) (tangent-le R (turnOf a b c) r t) _ _ R r .centre)
+    near-le (leb→le 560280 1000000 tt) (rounded-is (levelOf b) _ _ (level-near b h) (tangent-le R (cornerTurn a b c) r t) _ _ R r .centre)
 
-pub fillet-command : (a b c : Point) (R phase : ℕ) (p : Point) → InArea a → InArea b → R ≤ 10000 → turnOf a b c ≤ 1792 → IsCommand (filletGuide a b c R phase p .command)
+pub fillet-command : (a b c : Point) (R phase : ℕ) (p : Point) → InArea a → InArea b → R ≤ 10000 → cornerTurn a b c ≤ 1792 → IsCommand (filletGuide a b c R phase p .command)
 unfolding filletGuide filletLine filletCircle
 fillet-command a b c R phase p h k r t =
     either (eqb phase 1) _ _ (leg-command a b h k _ p) (circle-command _ b R _ _ p (centre-near a b c R k r t) k r)

@@ -4,7 +4,7 @@ use mathlib.Core.Bool.{Bool, true, false}
 use Prim.Native.Nat.{ℕ}
 use lib.IntN.{ℤ, pos, _+ℤ_, _-ℤ_, _*ℤ_, +ℤ-invr, zero-*ℤ}
 use lib.Signed.{leZ}
-use Rattle.integers.specs.Choose.{choose}
+use Rattle.conditions.specs.Choose.{choose}
 use Rattle.course.specs.declared.Vector.{Vector}
 use Rattle.course.specs.Direction.{directionOf}
 use Rattle.plane.specs.declared.Point.{Point}

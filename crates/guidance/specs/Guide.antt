@@ -4,7 +4,7 @@ use Prim.Native.Nat.{ℕ}
 use lib.Dec.{eqb, ltb}
 use lib.IntN.{pos}
 use lib.Signed.{leZ}
-use Rattle.integers.specs.Choose.{choose}
+use Rattle.conditions.specs.Choose.{choose}
 use Rattle.course.specs.declared.Vector.{Vector}
 use Rattle.course.specs.Direction.{directionOf}
 use Rattle.plane.specs.declared.Point.{Point}

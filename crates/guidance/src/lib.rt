@@ -11,7 +11,7 @@ ghost use Prim.Native.Nat.{_≤_, _<_};
 ghost use Rattle.integers.specs.Bounds.{Within};
 ghost use Rattle.course.specs.Vectors.{Near};
 ghost use Rattle.plane.specs.Area.{InArea, IsLeg};
-ghost use Rattle.fillets.specs.Corners.{turnOf, IsCorner};
+ghost use Rattle.fillets.specs.Corners.{cornerTurn, IsCorner};
 ghost use Rattle.dubins.specs.Limits.{IsEnds, IsPath};
 ghost use Rattle.guidance.specs.Commands.{senseOf, placeMetres, legMetres, lineCommand, courseCommand, circleCommand, CommandMeans};
 ghost use Rattle.guidance.specs.Guide.{fromOf, reachedOf, shortOf, legHeading, legGuide, lineGuide, pastOf, filletLine, filletCircle, filletGuide, legEnded, lastLegGuide, circleGuide, straightGuide, startPassed, endPassed, dubinsGuide};
@@ -121,7 +121,7 @@ fn from(start: Vector, at: Point) -> Vector
     requires { ⌜ Near 1000000 start × InArea at ⌝ }
     ensures { λ r. ⌜ (r ≡ fromOf start at) × Near 1500000 r ⌝ }
 {
-    plane::between(start, plane::level(at))
+    plane::vector_between(start, plane::level(at))
 }
 
 // Whether the position is at a place or beyond it, along a course.
@@ -223,7 +223,7 @@ fn fillet_circle(b: Point, c: Point, radius: u64, corner: Corner, at: Point) -> 
 
 // Fillets: the corner at b between a and c, in phase 1 or 2.
 pub fn fillet_guide(a: Point, b: Point, c: Point, radius: u64, phase: u8, at: Point) -> Guidance
-    requires { ⌜ (InArea a × (InArea b × InArea c)) × (((radius ≤ 10000) × (turnOf a b c ≤ 1792)) × InArea at) ⌝ }
+    requires { ⌜ (InArea a × (InArea b × InArea c)) × (((radius ≤ 10000) × (cornerTurn a b c ≤ 1792)) × InArea at) ⌝ }
     ensures { λ r. ⌜ (r ≡ filletGuide a b c radius phase at) × (r .heading < 4096) ⌝ }
 {
     let corner = fillets::round_corner(a, b, c, radius);

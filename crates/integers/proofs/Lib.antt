@@ -2,9 +2,8 @@ pub mod Magnitudes
 pub mod BoundLaws
 pub mod ValueLaws
 pub mod Ring
-mod TwosComplementLaws
+pub mod TwosComplementLaws
 pub mod Tests
-pub mod ChooseLaws
 pub mod FloatLaws
 pub mod RootLaws
 pub mod RoundLaws

@@ -6,7 +6,7 @@ use native.Mathlib.Nat.{mul-le-mul, lt-of-not-le, not-le-of-lt, le-antisymm, lt-
 use native.Mathlib.Omega.{arith}
 use lib.Dec.{leb}
 use borrow.Author.Tests.{leb-true, leb-false, le-leb, lt-leb}
-use Rattle.integers.specs.Choose.{choose}
+use Rattle.conditions.specs.Choose.{choose}
 use Rattle.integers.specs.Root.{IsRoot, nextRoot, rootBy, rootOf}
 
 next-is : (n r : ℕ) → IsRoot (n / 4) r → (t : Bool) → leb ((2 * r + 1) * (2 * r + 1)) n ≡ t → IsRoot n (choose t (2 * r + 1) (2 * r))

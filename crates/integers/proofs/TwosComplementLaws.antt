@@ -1,6 +1,6 @@
--- Two's complement, by the tests that the code makes. Assumes nothing.
+-- Two's complement: each way undoes the other, and both by the tests that the code makes. Assumes nothing.
 use mathlib.Core.Path.{_≡_, refl, sym, ap, _∙_}
-use mathlib.Core.Bool.{Bool, true, false}
+use mathlib.Core.Bool.{true, false}
 use Prim.Native.Nat.{ℕ, zero, suc, _-_, _≤_, _<_}
 use native.Mathlib.Nat.{zero-add}
 use native.Mathlib.Omega.{arith}
@@ -9,8 +9,17 @@ use lib.IntN.{ℤ, pos, negsuc, natAbs, _-ℤ_}
 use lib.Signed.{leZ, nonNeg}
 use mir.Syntax.{w32}
 use mir.Val.{Fits, SFits, toZ, ofZ}
-use mir.Facts.{toZ-ofZ, toZ-pos, toZ-neg}
+use mir.Facts.{toZ-ofZ, ofZ-toZ, toZ-pos, toZ-neg}
+use Rattle.conditions.proofs.Bools.{clash}
+use Rattle.integers.specs.TwosComplement.{signedOf, unsignedOf}
 use Rattle.integers.proofs.Ring.{v, lit, sub, same}
+
+-- ---- each undoes the other, of what 32 bits hold
+pub signed-unsigned : (z : ℤ) → SFits w32 z → signedOf (unsignedOf z) ≡ z
+signed-unsigned z f = toZ-ofZ f
+
+pub unsigned-signed : (u : ℕ) → u < 4294967296 → unsignedOf (signedOf u) ≡ u
+unsigned-signed u h = ofZ-toZ {w = w32} (record { fits = h })
 
 -- ---- from 2^31 up, m below 2^31 less than -1
 less : (m : ℕ) → negsuc 0 -ℤ pos m ≡ negsuc m
@@ -31,13 +40,6 @@ module _ (u : ℕ) (upper : 2147483648 ≤ u) (fits : u < 4294967296) where
       toZ-ofZ signed-fits ∙ below ∙ sym n ∙ ap (toZ w32) e
 
 -- ---- the bits of a signed number: of a negative one, what lacks to -1 taken from 2^32 - 1
--- no test both passes and fails
-clash : {A : Type 0} (b : Bool) → b ≡ true → b ≡ false → A
-clash b t u =
-    let z : _≡_ {A = Bool} true false = sym t ∙ u in
-    let e : _≡_ {A = ℕ} 0 1 = cc in
-    absurd (omega arith)
-
 pub low-casts : (z : ℤ) → SFits w32 z → leZ (pos 0) z ≡ true → T (nonNeg z) × Fits w32 (natAbs z)
 low-casts (pos n) f h = (tt, record { fits = omega (arith, f .sfits) })
 low-casts (negsuc n) f h = clash false h refl

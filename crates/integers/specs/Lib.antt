@@ -1,7 +1,7 @@
 pub mod Bounds
-pub mod Choose
 pub mod Floats
 pub mod Root
 pub mod Round
+pub mod TwosComplement
 pub mod Wide
 pub mod Wrap

@@ -1,7 +1,7 @@
 -- Document 01: "root is the floor of the square root." Assumes nothing.
 use Prim.Native.Nat.{ℕ, zero, suc, _+_, _*_, _/_, _≤_, _<_}
 use lib.Dec.{leb}
-use Rattle.integers.specs.Choose.{choose}
+use Rattle.conditions.specs.Choose.{choose}
 
 -- r is the floor of the square root of n: what a reader has to believe, and what `root` promises of its answer. Nothing else than rootOf n is
 -- it: the law root-only of proofs/RootLaws, by which the code's answer is known.

@@ -3,11 +3,10 @@ ghost use mathlib.Core.Path.{_≡_};
 ghost use Prim.Native.Nat.{_+_, _*_, _<_, _^_};
 ghost use lib.Dec.{leb};
 ghost use lib.IntN.{natAbs};
-ghost use mir.Syntax.{w32};
-ghost use mir.Val.{toZ, ofZ};
 ghost use Rattle.integers.specs.Floats.{bitsFrom};
 ghost use Rattle.integers.specs.Root.{IsRoot, rootOf};
 ghost use Rattle.integers.specs.Round.{nearestOf, HalvesAway};
+ghost use Rattle.integers.specs.TwosComplement.{signedOf, unsignedOf};
 ghost use Rattle.integers.specs.Wide.{IsProduct, IsTriple, Limbs, base, tripleOf};
 ghost use Rattle.integers.specs.Wrap.{wrapOf};
 
@@ -22,6 +21,11 @@ pub fn magnitude(x: i64) -> u64
     }
 }
 
+// How many values one byte has, and two.
+pub const ONE_BYTE: u16 = 256;
+
+pub const TWO_BYTES: u32 = 65536;
+
 // From this u32 up an i32 is negative.
 const SIGN_BIT: u32 = 2147483648;
 
@@ -30,7 +34,7 @@ pub const MINUS_ONE: u32 = 4294967295;
 
 // The number that bits are, in two's complement.
 pub fn signed(u: u32) -> i32
-    ensures { λ r. ⌜ r ≡ toZ w32 u ⌝ }
+    ensures { λ r. ⌜ r ≡ signedOf u ⌝ }
 {
     if u < SIGN_BIT {
         return u as i32;
@@ -40,7 +44,7 @@ pub fn signed(u: u32) -> i32
 
 // The bits of a number.
 pub fn unsigned(z: i32) -> u32
-    ensures { λ r. ⌜ r ≡ ofZ w32 z ⌝ }
+    ensures { λ r. ⌜ r ≡ unsignedOf z ⌝ }
 {
     if 0 <= z {
         return z as u32;

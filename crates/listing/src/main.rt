@@ -7,7 +7,7 @@ const MOST: usize = 8204;
 fn main() {
     let mut file = [0u8; MOST];
     let count = io::read_full(STDIN_FILENO, &mut file);
-    let mut text = [0u8; report::ROOM];
+    let mut text = [0u8; report::LISTING_ROOM];
     let length = report::listing(&file[..count], &mut text);
     console::write(&text, length);
 }

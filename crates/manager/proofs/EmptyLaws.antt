@@ -1,8 +1,8 @@
 -- 14 refuses the empty state. Assumes nothing.
 use mathlib.Core.Path.{_≡_, refl}
 use mathlib.Core.Bool.{false}
-use Rattle.integers.specs.Choose.{choose}
-use Rattle.refusals.specs.Sweep.{both}
+use Rattle.conditions.specs.Choose.{choose}
+use Rattle.conditions.specs.Both.{both}
 use Rattle.plan.specs.Stands.{standsOf}
 use Rattle.manager.specs.State.{emptyState, validOf}
 

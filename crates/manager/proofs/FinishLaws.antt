@@ -5,9 +5,9 @@ use Prim.Native.Nat.{ℕ, _-_, _<_}
 use native.Mathlib.Omega.{arith}
 use lib.Dec.{eqb}
 use borrow.Author.Tests.{eqb-true, le-ltb}
-use Rattle.integers.specs.Choose.{choose}
-use Rattle.integers.proofs.ChooseLaws.{choose-true}
-use Rattle.refusals.proofs.Bools.{by-bool, both-first, both-second}
+use Rattle.conditions.specs.Choose.{choose}
+use Rattle.conditions.proofs.ChooseLaws.{choose-true}
+use Rattle.conditions.proofs.Bools.{by-bool, both-first, both-second}
 use Rattle.plane.specs.declared.Point.{Point}
 use Rattle.units.specs.declared.Fix.{Fix}
 use Rattle.units.specs.declared.Position.the-variants.{At}
@@ -19,7 +19,7 @@ use Rattle.guidance.proofs.EndLaws.{ended-there, phase-5-there}
 use Rattle.plan.specs.declared.Mode.{Mode}
 use Rattle.plan.specs.declared.Mode.the-variants.{Lines, Fillets, Dubins}
 use Rattle.plan.specs.declared.Plan.{Plan}
-use Rattle.plan.specs.Places.{pointOf}
+use Rattle.plan.specs.Places.{planPoint}
 use Rattle.manager.specs.declared.Progress.{Progress}
 use Rattle.manager.specs.declared.State.{State}
 use Rattle.manager.specs.declared.Stepped.{Stepped}
@@ -51,8 +51,8 @@ module _ (mode : Mode) (n : ℕ) (p : Progress) (e : atEnd mode n p ≡ true) wh
   next-stays f false = refl
 
 -- the last leg ends at the last point
-end-point : (plan : Plan) (i : ℕ) → onLastLeg (plan .head .count) i ≡ true → lastPoint plan ≡ pointOf plan (i - 1)
-end-point plan i leg = ap (λ (k : ℕ). pointOf plan (k - 1)) (last-is (plan .head .count) ∙ sym (on-last (plan .head .count) i leg))
+end-point : (plan : Plan) (i : ℕ) → onLastLeg (plan .head .count) i ≡ true → lastPoint plan ≡ planPoint plan (i - 1)
+end-point plan i leg = ap (λ (k : ℕ). planPoint plan (k - 1)) (last-is (plan .head .count) ∙ sym (on-last (plan .head .count) i leg))
 
 -- ---- a position at the end of the leg that is flown ends its last phase, in each mode
 leg-passed : (level : Bool) (a b : Point) → lastLegGuide level a b b .passed ≡ true
@@ -60,7 +60,7 @@ unfolding lastLegGuide legGuide
 leg-passed level a b = ended-there level a b
 
 path-passed : (s : State) (v : Valid s) → s .plan .head .mode ≡ Dubins
-    → pathGuide (endsOf (s .plan) (s .progress .index)) 5 (pointOf (s .plan) (s .progress .index - 1)) (shortestOf (endsOf (s .plan) (s .progress .index))) .passed ≡ true
+    → pathGuide (endsOf (s .plan) (s .progress .index)) 5 (planPoint (s .plan) (s .progress .index - 1)) (shortestOf (endsOf (s .plan) (s .progress .index))) .passed ≡ true
 unfolding pathGuide dubinsGuide circleGuide choose
 path-passed s v e =
     let ends = endsOf (s .plan) (s .progress .index) in
@@ -80,10 +80,10 @@ module _ (s : State) (h : validOf s ≡ true) (e : ending s ≡ true) where
   i = s .progress .index
 
   abbrev start : Point
-  start = pointOf (s .plan) (i - 2)
+  start = planPoint (s .plan) (i - 2)
 
   abbrev end : Point
-  end = pointOf (s .plan) (i - 1)
+  end = planPoint (s .plan) (i - 1)
 
   leg : onLastLeg (s .plan .head .count) i ≡ true
   leg = end-leg _ _ _ e

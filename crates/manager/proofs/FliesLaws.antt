@@ -5,8 +5,8 @@ use Prim.Native.Nat.{ℕ, _-_}
 use native.Mathlib.Omega.{arith}
 use lib.Dec.{eqb}
 use borrow.Author.Tests.{eq-eqb}
-use Rattle.integers.specs.Choose.{choose}
-use Rattle.refusals.proofs.Bools.{by-bool}
+use Rattle.conditions.specs.Choose.{choose}
+use Rattle.conditions.proofs.Bools.{by-bool}
 use Rattle.plane.specs.declared.Point.{Point}
 use Rattle.plane.specs.Area.{InArea}
 use Rattle.units.specs.declared.Fix.{Fix}
@@ -19,7 +19,7 @@ use Rattle.guidance.specs.Commands.{PlainCommand, HasCommand, IsCommand}
 use Rattle.guidance.proofs.CommandLaws.{line-guide-command, last-leg-command, fillet-command, dubins-command}
 use Rattle.plan.specs.declared.Mode.{Mode}
 use Rattle.plan.specs.declared.Mode.the-variants.{Lines, Fillets, Dubins}
-use Rattle.plan.specs.Places.{pointOf}
+use Rattle.plan.specs.Places.{planPoint}
 use Rattle.plan.specs.Stands.{ByMode}
 use Rattle.manager.specs.declared.State.{State}
 use Rattle.manager.specs.declared.Stepped.{Stepped}
@@ -39,10 +39,10 @@ module _ (s : State) (v : Valid s) (p : Point) where
   abbrev i : ℕ
   i = s .progress .index
 
-  start-in : InArea (pointOf (s .plan) (i - 2))
+  start-in : InArea (planPoint (s .plan) (i - 2))
   start-in = v .stands .ranged (i - 2) (omega (arith, v .least, index-most s v))
 
-  end-in : InArea (pointOf (s .plan) (i - 1))
+  end-in : InArea (planPoint (s .plan) (i - 1))
   end-in = v .stands .ranged (i - 1) (omega (arith, v .least, index-most s v))
 
   command-by : (m : Mode) → s .plan .head .mode ≡ m → IsCommand (guideOf m (s .plan) i (s .progress .phase) p .command)

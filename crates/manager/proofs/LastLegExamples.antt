@@ -2,12 +2,13 @@
 use mathlib.Core.Path.{_≡_, refl}
 use mathlib.Core.Bool.{true, false}
 use lib.Ieee.{ofBits}
-use Rattle.integers.specs.Choose.{choose}
+use Rattle.conditions.specs.Choose.{choose}
+use Rattle.conditions.specs.Both.{both}
 use Rattle.integers.specs.Root.{nextRoot, rootBy, rootOf}
 use Rattle.integers.specs.Round.{nearestOf}
 use Rattle.integers.specs.Wrap.{wrapOf}
 use Rattle.refusals.specs.Outcome.{check, andThen, isGood}
-use Rattle.refusals.specs.Sweep.{sweep, both, every}
+use Rattle.refusals.specs.Sweep.{sweep, every}
 use Rattle.course.specs.Table.{series, scaledSine, sineOf}
 use Rattle.course.specs.Vectors.{cross}
 use Rattle.course.specs.Direction.{quarter, turned, directionOf}
@@ -15,53 +16,53 @@ use Rattle.course.specs.Bearing.{edgeNorth, edgeEast, reaches, climb, bearingIn
 use Rattle.course.specs.Offset.{offsetOf}
 use Rattle.plane.specs.declared.Point.{Point}
 use Rattle.plane.specs.Area.{legOf, levelOf}
-use Rattle.plane.specs.Level.{plus, minus, levelLegOf, dotOf, squareOf, lengthOf, sidewaysOf}
+use Rattle.plane.specs.Level.{plus, minus, levelLegOf, dotOf, squareOf, vectorLength, sidewaysOf}
 use Rattle.plane.specs.Half.{dot3Of, square3Of, halfPlane, metOf, minorSize, crossSize, oppositeOf}
 use Rattle.units.specs.declared.Fix.{Fix}
 use Rattle.units.specs.declared.Position.the-variants.{At}
 use Rattle.units.specs.Decimetres.{decimetresOf, inLimit}
 use Rattle.units.specs.Position.{allInLimit, positionOf}
-use Rattle.fillets.specs.Corners.{lesserTurn, turnBetween, turnOf, tangentOf, rightOf, roundedOf, cornerOf}
+use Rattle.fillets.specs.Corners.{lesserTurn, turnBetween, cornerTurn, tangentOf, rightOf, roundedOf, cornerOf}
 use Rattle.dubins.specs.Cases.{centreOf, circlesOf, tangentExists, startsRight, endsRight, sameSide}
 use Rattle.dubins.specs.Choice.{hasPathOf, farApart}
 use Rattle.guidance.specs.Guide.{fromOf, legGuide, lineGuide, circleGuide, pastOf, filletLine, filletCircle, filletGuide, legEnded, lastLegGuide}
 use Rattle.plan.specs.declared.Mode.the-variants.{Lines, Fillets, Dubins}
-use Rattle.plan.specs.Limits.{betweenOf, insideOf, inAreaOf, zeroOf, arcRadius, radiusFits}
+use Rattle.plan.specs.Limits.{signedBetween, insideOf, inAreaOf, zeroOf, arcRadius, radiusFits}
 use Rattle.plan.specs.Places.{padded}
 use Rattle.plan.specs.Rules.{modeOf, coursesFit, pairNumber, cornerNumber, tangentAt, tangentNumber, endsNumber, legNumber, pairsOf, cornersOf, legsOf, geometryOn, rulesOn}
 use Rattle.plan.specs.Stands.{givenOf, pointFits, courseFits, valuesFit, placeFits, placesFit, standsOf}
 use Rattle.manager.specs.declared.State.{State}
 use Rattle.manager.specs.State.{lastIndex, onLastLeg, lastPhase, atEnd, indexFits, phaseFits, endFits, placedOf, validOf}
 use Rattle.manager.specs.Step.{guideOf, nextOf, refuseOf, movedOf, locatedStep, stepOf}
-use Rattle.manager.specs.LastLeg.{point, state, there, short, accepts, Holds, LastLeg}
+use Rattle.manager.specs.LastLeg.{lowered, state, atTheLast, almostThere, accepts, LastLegHolds, LastLeg}
 use Rattle.manager.proofs.AnswerExamples.{each}
 use Rattle.manager.proofs.FinishLaws.{finishes}
 use Rattle.manager.proofs.FliesLaws.{flies}
 
-accepted : (s : State) (fix : Fix) (p : Point) → validOf s ≡ true → 7 ≡ s .plan .head .serial → positionOf fix ≡ At p → Holds (accepts s fix)
+accepted : (s : State) (fix : Fix) (p : Point) → validOf s ≡ true → 7 ≡ s .plan .head .serial → positionOf fix ≡ At p → LastLegHolds (accepts s fix)
 accepted s fix p v e at =
     let f = flies s 7 fix in
     (f .accepted v e p at, (f .plain, (f .keeps, f .onward v)))
 
 pub last-leg : LastLeg
-unfolding choose nextRoot rootBy rootOf nearestOf wrapOf check andThen isGood sweep both every series scaledSine sineOf cross quarter turned directionOf edgeNorth edgeEast reaches climb bearingIn bearingBy bearingOf offsetOf legOf levelOf plus minus levelLegOf dotOf squareOf lengthOf sidewaysOf dot3Of square3Of halfPlane metOf minorSize crossSize oppositeOf decimetresOf inLimit allInLimit positionOf ofBits lesserTurn turnBetween turnOf tangentOf rightOf roundedOf cornerOf fromOf legGuide lineGuide circleGuide pastOf filletLine filletCircle filletGuide legEnded lastLegGuide betweenOf insideOf inAreaOf zeroOf arcRadius radiusFits padded modeOf coursesFit pairNumber cornerNumber tangentAt tangentNumber legNumber pairsOf cornersOf legsOf geometryOn rulesOn givenOf pointFits courseFits valuesFit placeFits placesFit standsOf lastIndex onLastLeg lastPhase atEnd indexFits phaseFits endFits placedOf validOf guideOf nextOf refuseOf movedOf locatedStep stepOf startsRight endsRight sameSide centreOf circlesOf tangentExists hasPathOf farApart endsNumber
+unfolding choose nextRoot rootBy rootOf nearestOf wrapOf check andThen isGood sweep both every series scaledSine sineOf cross quarter turned directionOf edgeNorth edgeEast reaches climb bearingIn bearingBy bearingOf offsetOf legOf levelOf plus minus levelLegOf dotOf squareOf vectorLength sidewaysOf dot3Of square3Of halfPlane metOf minorSize crossSize oppositeOf decimetresOf inLimit allInLimit positionOf ofBits lesserTurn turnBetween cornerTurn tangentOf rightOf roundedOf cornerOf fromOf legGuide lineGuide circleGuide pastOf filletLine filletCircle filletGuide legEnded lastLegGuide signedBetween insideOf inAreaOf zeroOf arcRadius radiusFits padded modeOf coursesFit pairNumber cornerNumber tangentAt tangentNumber legNumber pairsOf cornersOf legsOf geometryOn rulesOn givenOf pointFits courseFits valuesFit placeFits placesFit standsOf lastIndex onLastLeg lastPhase atEnd indexFits phaseFits endFits placedOf validOf guideOf nextOf refuseOf movedOf locatedStep stepOf startsRight endsRight sameSide centreOf circlesOf tangentExists hasPathOf farApart endsNumber
 last-leg =
     record {
       passed = each .0;
       ended = each .1 .0;
       refused = each .1 .1;
       finished = (
-        finishes (state Lines 3 1 false) 7 there .sets refl refl refl,
+        finishes (state Lines 3 1 false) 7 atTheLast .sets refl refl refl,
         (
-          finishes (state Fillets 3 1 false) 7 there .sets refl refl refl,
+          finishes (state Fillets 3 1 false) 7 atTheLast .sets refl refl refl,
           (
-            finishes (state Dubins 3 5 false) 7 there .sets refl refl refl,
-            (finishes (state Lines 3 1 true) 7 short .stays refl, (finishes (state Fillets 3 1 true) 7 short .stays refl, (finishes (state Dubins 3 5 true) 7 short .stays refl, tt))),
+            finishes (state Dubins 3 5 false) 7 atTheLast .sets refl refl refl,
+            (finishes (state Lines 3 1 true) 7 almostThere .stays refl, (finishes (state Fillets 3 1 true) 7 almostThere .stays refl, (finishes (state Dubins 3 5 true) 7 almostThere .stays refl, tt))),
           ),
         ),
       );
       flown = (
-        accepted (state Lines 2 1 false) short (point 1000 999 500) refl refl refl,
-        (accepted (state Fillets 2 1 false) short (point 1000 999 500) refl refl refl, (accepted (state Dubins 2 1 false) short (point 1000 999 500) refl refl refl, tt)),
+        accepted (state Lines 2 1 false) almostThere (lowered 1000 999 500) refl refl refl,
+        (accepted (state Fillets 2 1 false) almostThere (lowered 1000 999 500) refl refl refl, (accepted (state Dubins 2 1 false) almostThere (lowered 1000 999 500) refl refl refl, tt)),
       );
     }

@@ -4,9 +4,9 @@ use mathlib.Core.Bool.{true}
 use Prim.Native.Nat.{ℕ}
 use native.Mathlib.Omega.{arith}
 use borrow.Author.Tests.{le-leb}
-use Rattle.integers.specs.Choose.{choose}
+use Rattle.conditions.specs.Choose.{choose}
+use Rattle.conditions.proofs.Bools.{both-true}
 use Rattle.refusals.specs.Numbers.{noState}
-use Rattle.refusals.proofs.Bools.{both-true}
 use Rattle.units.specs.declared.Fix.{Fix}
 use Rattle.plan.specs.declared.Plan.{Plan}
 use Rattle.plan.specs.Stands.{standsOf}

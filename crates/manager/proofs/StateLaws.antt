@@ -5,10 +5,10 @@ use mathlib.Core.Bool.{true, false}
 use Prim.Native.Nat.{ℕ, _+_, _-_, _≤_, _<_}
 use native.Mathlib.Omega.{arith}
 use borrow.Author.Tests.{leb-true, eqb-true, eqb-false}
-use Rattle.integers.specs.Choose.{choose}
-use Rattle.refusals.specs.Sweep.{both}
-use Rattle.refusals.proofs.Bools.{by-bool, both-first, both-second}
-use Rattle.fillets.specs.Corners.{turnOf}
+use Rattle.conditions.specs.Choose.{choose}
+use Rattle.conditions.specs.Both.{both}
+use Rattle.conditions.proofs.Bools.{by-bool, both-first, both-second}
+use Rattle.fillets.specs.Corners.{cornerTurn}
 use Rattle.dubins.specs.declared.Path.{Path}
 use Rattle.dubins.specs.declared.Found.the-variants.{Shortest}
 use Rattle.dubins.specs.Choice.{shortestOf, hasPathOf}
@@ -16,7 +16,7 @@ use Rattle.dubins.proofs.ShortestLaws.{found-when}
 use Rattle.plan.specs.declared.Mode.{Mode}
 use Rattle.plan.specs.declared.Mode.the-variants.{Lines, Fillets, Dubins}
 use Rattle.plan.specs.Limits.{mostPoints, mostRadius, mostTurn}
-use Rattle.plan.specs.Places.{pointOf}
+use Rattle.plan.specs.Places.{planPoint}
 use Rattle.plan.specs.Stands.{standsOf, ByMode, Placed, Aiming, Long}
 use Rattle.plan.proofs.StandLaws.{stands-means, placed-of, aiming-of}
 use Rattle.manager.specs.declared.Progress.{Progress}
@@ -114,7 +114,7 @@ module _ (s : State) (v : Valid s) where
 
   -- ---- fillets: the radius and the turn at the index
   pub fillets-corner : s .plan .head .mode ≡ Fillets → onLastLeg (s .plan .head .count) (s .progress .index) ≡ false
-      → (s .plan .head .radius ≤ mostRadius) × (turnOf (pointOf (s .plan) (s .progress .index - 2)) (pointOf (s .plan) (s .progress .index - 1)) (pointOf (s .plan) (s .progress .index)) ≤ mostTurn)
+      → (s .plan .head .radius ≤ mostRadius) × (cornerTurn (planPoint (s .plan) (s .progress .index - 2)) (planPoint (s .plan) (s .progress .index - 1)) (planPoint (s .plan) (s .progress .index)) ≤ mostTurn)
   fillets-corner e f =
       let i = s .progress .index in
       let p = s .plan in

@@ -5,9 +5,9 @@ use Prim.Native.Nat.{ℕ, _+_, _<_}
 use native.Mathlib.Omega.{arith}
 use lib.Dec.{eqb, ltb}
 use borrow.Author.Tests.{ltb-true, ltb-false, le-leb, eq-eqb, ne-eqb}
-use Rattle.integers.specs.Choose.{choose}
-use Rattle.integers.proofs.ChooseLaws.{choose-true, choose-false}
-use Rattle.refusals.proofs.Bools.{by-bool, clash, both-off, both-off-second, both-true}
+use Rattle.conditions.specs.Choose.{choose}
+use Rattle.conditions.proofs.ChooseLaws.{choose-true, choose-false}
+use Rattle.conditions.proofs.Bools.{by-bool, clash, both-off, both-off-second, both-true}
 use Rattle.plane.specs.declared.Point.{Point}
 use Rattle.units.specs.declared.Fix.{Fix}
 use Rattle.units.specs.declared.Position.{Position}

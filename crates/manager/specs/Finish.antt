@@ -7,14 +7,14 @@ use Rattle.units.specs.declared.Fix.{Fix}
 use Rattle.units.specs.declared.Position.the-variants.{At}
 use Rattle.units.specs.Position.{positionOf}
 use Rattle.plan.specs.declared.Plan.{Plan}
-use Rattle.plan.specs.Places.{pointOf}
+use Rattle.plan.specs.Places.{planPoint}
 use Rattle.manager.specs.declared.State.{State}
 use Rattle.manager.specs.declared.Stepped.{Stepped}
 use Rattle.manager.specs.State.{lastIndex, atEnd}
 
 -- point N; places are counted from 0
 abbrev pub lastPoint : Plan → Point
-lastPoint plan = pointOf plan (lastIndex (plan .head .count) - 1)
+lastPoint plan = planPoint plan (lastIndex (plan .head .count) - 1)
 
 -- what r, the answer to a fix on s, has to do with the end
 pub record Finishes (s : State) (fix : Fix) (r : Stepped) : Type 0 where

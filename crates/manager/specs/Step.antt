@@ -2,8 +2,8 @@
 use mathlib.Core.Bool.{Bool, true, false}
 use Prim.Native.Nat.{ℕ, _+_, _-_}
 use lib.Dec.{eqb, ltb}
+use Rattle.conditions.specs.Choose.{choose}
 use Rattle.refusals.specs.Numbers.{noPosition, noState, otherSerial}
-use Rattle.integers.specs.Choose.{choose}
 use Rattle.plane.specs.declared.Point.{Point}
 use Rattle.units.specs.declared.Fix.{Fix}
 use Rattle.units.specs.declared.Position.{Position}
@@ -19,7 +19,7 @@ use Rattle.guidance.specs.Guide.{lineGuide, filletGuide, lastLegGuide, dubinsGu
 use Rattle.plan.specs.declared.Mode.{Mode}
 use Rattle.plan.specs.declared.Mode.the-variants.{Lines, Fillets, Dubins}
 use Rattle.plan.specs.declared.Plan.{Plan}
-use Rattle.plan.specs.Places.{pointOf, courseOf}
+use Rattle.plan.specs.Places.{planPoint, planCourse}
 use Rattle.plan.specs.Rules.{endsAt}
 use Rattle.manager.specs.declared.Progress.{Progress}
 use Rattle.manager.specs.declared.State.{State}
@@ -29,7 +29,7 @@ use Rattle.manager.specs.State.{onLastLeg, lastPhase, validOf}
 
 -- the leg that is flown at an index of a Dubins plan, "from point i−1 with course χs to point i with χe"; places are counted from 0
 abbrev pub endsOf : Plan → ℕ → Ends
-endsOf plan i = endsAt (plan .head .radius) (pointOf plan) (courseOf plan) (i - 2) (i - 1)
+endsOf plan i = endsAt (plan .head .radius) (planPoint plan) (planCourse plan) (i - 2) (i - 1)
 
 -- its guidance by the path that was worked out. A leg of a valid state has one (the law valid-path of proofs/StateLaws).
 unfoldable pub pathGuide : Ends → ℕ → Point → Found → Guidance
@@ -40,11 +40,11 @@ pathGuide ends phase p Missing = record { command = Nothing; heading = 0; passed
 -- no point behind it; lines and fillets have a rule of their own there (request 4), fillets in north and east.
 unfoldable pub guideOf : Mode → Plan → ℕ → ℕ → Point → Guidance
 guideOf Lines plan i phase p =
-    choose (onLastLeg (plan .head .count) i) (lastLegGuide false (pointOf plan (i - 2)) (pointOf plan (i - 1)) p)
-    (lineGuide (pointOf plan (i - 2)) (pointOf plan (i - 1)) (pointOf plan i) p)
+    choose (onLastLeg (plan .head .count) i) (lastLegGuide false (planPoint plan (i - 2)) (planPoint plan (i - 1)) p)
+    (lineGuide (planPoint plan (i - 2)) (planPoint plan (i - 1)) (planPoint plan i) p)
 guideOf Fillets plan i phase p =
-    choose (onLastLeg (plan .head .count) i) (lastLegGuide true (pointOf plan (i - 2)) (pointOf plan (i - 1)) p)
-    (filletGuide (pointOf plan (i - 2)) (pointOf plan (i - 1)) (pointOf plan i) (plan .head .radius) phase p)
+    choose (onLastLeg (plan .head .count) i) (lastLegGuide true (planPoint plan (i - 2)) (planPoint plan (i - 1)) p)
+    (filletGuide (planPoint plan (i - 2)) (planPoint plan (i - 1)) (planPoint plan i) (plan .head .radius) phase p)
 guideOf Dubins plan i phase p = pathGuide (endsOf plan i) phase p (shortestOf (endsOf plan i))
 
 -- "at most one phase change follows": the next phase; after the last one the next i and phase 1, or at the last i it stays "and finished is set"

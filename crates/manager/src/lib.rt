@@ -13,11 +13,10 @@ use units::Position;
 ghost use mathlib.Core.Path.{_≡_};
 ghost use mathlib.Core.Bool.{true, false};
 ghost use Prim.Native.Nat.{ℕ, _-_, _≤_, _<_};
-ghost use Rattle.integers.specs.Choose.{choose};
-ghost use Rattle.refusals.specs.Sweep.{both};
+ghost use Rattle.conditions.specs.Choose.{choose};
 ghost use Rattle.refusals.specs.Numbers.{noState};
 ghost use Rattle.plane.specs.Area.{InArea};
-ghost use Rattle.fillets.specs.Corners.{turnOf};
+ghost use Rattle.fillets.specs.Corners.{cornerTurn};
 ghost use Rattle.dubins.specs.Limits.{IsEnds};
 ghost use Rattle.dubins.specs.Choice.{shortestOf};
 ghost use Rattle.guidance.specs.Guide.{lineGuide, filletGuide, lastLegGuide};
@@ -78,10 +77,10 @@ pub fn empty() -> State
     };
     let plan = Plan {
         head,
-        norths: [0i32; plan::POINTS],
-        easts: [0i32; plan::POINTS],
-        downs: [0i32; plan::POINTS],
-        courses: [0i32; plan::POINTS],
+        norths: [0i32; plan::MOST_POINTS],
+        easts: [0i32; plan::MOST_POINTS],
+        downs: [0i32; plan::MOST_POINTS],
+        courses: [0i32; plan::MOST_POINTS],
     };
     let progress = Progress {
         index: 0,
@@ -127,18 +126,11 @@ fn last_phase(mode: Mode, count: usize, index: usize) -> u8
     }
 }
 
-// Whether two tests pass.
-fn both(a: bool, b: bool) -> bool
-    ensures { λ r. ⌜ r ≡ both a b ⌝ }
-{
-    if a { b } else { false }
-}
-
 // Whether a flight is at the last index and phase.
 fn at_end(mode: Mode, count: usize, p: Progress) -> bool
     ensures { λ r. ⌜ r ≡ atEnd mode count p ⌝ }
 {
-    both(
+    conditions::both(
         on_last_leg(count, p.index),
         p.phase == last_phase(mode, count, p.index),
     )
@@ -148,14 +140,14 @@ fn at_end(mode: Mode, count: usize, p: Progress) -> bool
 fn index_fits(count: usize, p: Progress) -> bool
     ensures { λ r. ⌜ r ≡ indexFits count p ⌝ }
 {
-    both(2 <= p.index, p.index <= last_index(count))
+    conditions::both(2 <= p.index, p.index <= last_index(count))
 }
 
 // Whether the phase is one that the mode allows at the index.
 fn phase_fits(mode: Mode, count: usize, p: Progress) -> bool
     ensures { λ r. ⌜ r ≡ phaseFits mode count p ⌝ }
 {
-    both(1 <= p.phase, p.phase <= last_phase(mode, count, p.index))
+    conditions::both(1 <= p.phase, p.phase <= last_phase(mode, count, p.index))
 }
 
 // Whether a flight that is finished is at the last index and phase.
@@ -172,9 +164,9 @@ fn end_fits(mode: Mode, count: usize, p: Progress) -> bool
 fn placed(mode: Mode, count: usize, p: Progress) -> bool
     ensures { λ r. ⌜ r ≡ placedOf mode count p ⌝ }
 {
-    both(
+    conditions::both(
         index_fits(count, p),
-        both(phase_fits(mode, count, p), end_fits(mode, count, p)),
+        conditions::both(phase_fits(mode, count, p), end_fits(mode, count, p)),
     )
 }
 
@@ -246,7 +238,7 @@ fn fillet_guide_at<'a>(
     easts: &'a [i32],
     downs: &'a [i32],
 ) -> Guidance
-    requires { ⌜ (InArea a × InArea b) × ((last ≡ false → Placed (now norths) (now easts) (now downs) i × ((radius ≤ mostRadius) × (turnOf a b (placeAt (now norths) (now easts) (now downs) i) ≤ mostTurn))) × InArea at) ⌝ }
+    requires { ⌜ (InArea a × InArea b) × ((last ≡ false → Placed (now norths) (now easts) (now downs) i × ((radius ≤ mostRadius) × (cornerTurn a b (placeAt (now norths) (now easts) (now downs) i) ≤ mostTurn))) × InArea at) ⌝ }
     ensures { λ r. ⌜ (r ≡ choose last (lastLegGuide true a b at) (filletGuide a b (placeAt (now (norths .entry)) (now (easts .entry)) (now (downs .entry)) i) radius phase at)) × (r .heading < 4096) ⌝ }
 {
     if last {

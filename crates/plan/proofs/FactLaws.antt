@@ -1,8 +1,8 @@
 -- The limits and rules of a plan come to what document 01 says. Assumes nothing.
 use mathlib.Core.Path.{refl}
 use borrow.Author.Tests.{lt-ltb, le-ltb}
-use Rattle.integers.specs.Choose.{choose}
-use Rattle.fillets.specs.Corners.{turnOf}
+use Rattle.conditions.specs.Choose.{choose}
+use Rattle.fillets.specs.Corners.{cornerTurn}
 use Rattle.plan.specs.Rules.{cornerNumber, endsNumber}
 use Rattle.plan.specs.Facts.{PlanFacts}
 use Rattle.plan.proofs.LoadedLaws.{loaded-stands}
@@ -12,8 +12,8 @@ pub plan-facts : PlanFacts
 unfolding choose cornerNumber endsNumber
 plan-facts =
     record {
-      sharp = λ a b c h. rw (lt-ltb 1792 (turnOf a b c) h) refl;
-      blunt = λ a b c h. rw (le-ltb 1792 (turnOf a b c) h) refl;
+      sharp = λ a b c h. rw (lt-ltb 1792 (cornerTurn a b c) h) refl;
+      blunt = λ a b c h. rw (le-ltb 1792 (cornerTurn a b c) h) refl;
       close = λ ends f. rw f refl;
       caseless = λ ends f h. rw (f, h) refl;
       loaded = λ serial R ps cs l. loaded-stands serial R ps cs l;

@@ -6,16 +6,16 @@ use native.Mathlib.Omega.{arith}
 use lib.Dec.{leb}
 use lib.IntN.{ℤ, pos, negsuc}
 use borrow.Author.Tests.{eqb-true, leb-true, le-leb}
-use Rattle.integers.specs.Choose.{choose}
+use Rattle.conditions.specs.Choose.{choose}
+use Rattle.conditions.specs.Both.{both}
+use Rattle.conditions.proofs.Bools.{clash, both-on, both-true, both-first, both-second, both-last}
 use Rattle.integers.specs.Bounds.{Within}
 use Rattle.integers.proofs.BoundLaws.{within-le}
-use Rattle.refusals.specs.Sweep.{both}
-use Rattle.refusals.proofs.Bools.{clash, both-on, both-true, both-first, both-second, both-last}
 use Rattle.plane.specs.declared.Point.{Point}
 use Rattle.plane.specs.Area.{InArea}
 use Rattle.plan.specs.declared.Mode.{Mode}
 use Rattle.plan.specs.declared.Mode.the-variants.{Lines, Fillets, Dubins}
-use Rattle.plan.specs.Limits.{mostLevel, mostDown, leastRadius, mostRadius, courses, betweenOf, numberFits, insideOf, inAreaOf, zeroOf, arcRadius, radiusFits}
+use Rattle.plan.specs.Limits.{mostLevel, mostDown, leastRadius, mostRadius, fullCircle, signedBetween, numberFits, insideOf, inAreaOf, zeroOf, arcRadius, radiusFits}
 use Rattle.plan.specs.Stands.{pointFits, IsCourse}
 
 -- an answer of the code, and what the test tells where it passes
@@ -23,34 +23,34 @@ pub told : {A : Type 0} (r test : Bool) → (test ≡ true → A) → r ≡ test
 told r test f e = (e, (λ t. f (sym e ∙ t)))
 
 -- ---- numbers between limits
-pos-between : (low high c : ℕ) → betweenOf low high (pos c) ≡ leb c high
-unfolding betweenOf both
+pos-between : (low high c : ℕ) → signedBetween low high (pos c) ≡ leb c high
+unfolding signedBetween both
 pos-between zero high c = both-on (leb 0 c) (leb c high) (le-leb 0 c (omega arith))
 pos-between (suc n) high c = refl
 
-pub within-means : (n : ℕ) (z : ℤ) → betweenOf n n z ≡ true → Within n z
-unfolding betweenOf both
+pub within-means : (n : ℕ) (z : ℤ) → signedBetween n n z ≡ true → Within n z
+unfolding signedBetween both
 within-means n (pos k) h = record { within = leb-true k n (sym (pos-between n n k) ∙ h) }
 within-means zero (negsuc k) h = clash false h refl
 within-means (suc n) (negsuc k) h = record { within = omega (arith, leb-true k n (both-first (leb k n) true h)) }
 
-within-test : (n : ℕ) (z : ℤ) → Within n z → betweenOf n n z ≡ true
-unfolding betweenOf both
+within-test : (n : ℕ) (z : ℤ) → Within n z → signedBetween n n z ≡ true
+unfolding signedBetween both
 within-test n (pos k) h = pos-between n n k ∙ le-leb k n (h .within)
 within-test zero (negsuc k) h = absurd (omega (arith, h .within))
 within-test (suc n) (negsuc k) h = both-last (leb k n) true refl ∙ le-leb k n (omega (arith, h .within))
 
-pub zero-means : (z : ℤ) → betweenOf 0 0 z ≡ true → z ≡ pos 0
+pub zero-means : (z : ℤ) → signedBetween 0 0 z ≡ true → z ≡ pos 0
 zero-means (pos zero) h = refl
 zero-means (pos (suc k)) h = absurd (omega (arith, within-means 0 (pos (suc k)) h .within))
 zero-means (negsuc k) h = absurd (omega (arith, within-means 0 (negsuc k) h .within))
 
 -- courses, which are not negative
-pub course-test : (m c : ℕ) → c ≤ m → betweenOf 0 m (pos c) ≡ true
+pub course-test : (m c : ℕ) → c ≤ m → signedBetween 0 m (pos c) ≡ true
 course-test m c h = pos-between 0 m c ∙ le-leb c m h
 
-pub course-means : (m : ℕ) (χ : ℤ) → m < courses → betweenOf 0 m χ ≡ true → IsCourse χ
-unfolding betweenOf both
+pub course-means : (m : ℕ) (χ : ℤ) → m < fullCircle → signedBetween 0 m χ ≡ true → IsCourse χ
+unfolding signedBetween both
 course-means m (pos n) l h = record { sign = refl; low = omega (arith, leb-true n m (sym (pos-between 0 m n) ∙ h)) }
 course-means m (negsuc n) l h = clash false h refl
 
@@ -68,11 +68,11 @@ point-numbers false p = refl
 inside-area : (level down : ℕ) (p : Point) → level ≤ mostLevel → down ≤ mostDown → insideOf level down p ≡ true → InArea p
 unfolding insideOf
 inside-area level down p l d h =
-    let k = both-second (betweenOf level level (p .north)) (both (betweenOf level level (p .east)) (betweenOf down down (p .down))) h in
+    let k = both-second (signedBetween level level (p .north)) (both (signedBetween level level (p .east)) (signedBetween down down (p .down))) h in
     record {
-      north = within-le l (within-means level (p .north) (both-first (betweenOf level level (p .north)) (both (betweenOf level level (p .east)) (betweenOf down down (p .down))) h));
-      east = within-le l (within-means level (p .east) (both-first (betweenOf level level (p .east)) (betweenOf down down (p .down)) k));
-      down = within-le d (within-means down (p .down) (both-second (betweenOf level level (p .east)) (betweenOf down down (p .down)) k));
+      north = within-le l (within-means level (p .north) (both-first (signedBetween level level (p .north)) (both (signedBetween level level (p .east)) (signedBetween down down (p .down))) h));
+      east = within-le l (within-means level (p .east) (both-first (signedBetween level level (p .east)) (signedBetween down down (p .down)) k));
+      down = within-le d (within-means down (p .down) (both-second (signedBetween level level (p .east)) (signedBetween down down (p .down)) k));
     }
 
 pub area-means : (p : Point) → inAreaOf p ≡ true → InArea p
@@ -86,8 +86,8 @@ zero-area p h = inside-area 0 0 p (omega arith) (omega arith) h
 pub area-test : (p : Point) → InArea p → inAreaOf p ≡ true
 unfolding inAreaOf insideOf
 area-test p h =
-    both-true (betweenOf mostLevel mostLevel (p .north)) (both (betweenOf mostLevel mostLevel (p .east)) (betweenOf mostDown mostDown (p .down))) (within-test mostLevel (p .north) (h .north))
-    (both-true (betweenOf mostLevel mostLevel (p .east)) (betweenOf mostDown mostDown (p .down)) (within-test mostLevel (p .east) (h .east)) (within-test mostDown (p .down) (h .down)))
+    both-true (signedBetween mostLevel mostLevel (p .north)) (both (signedBetween mostLevel mostLevel (p .east)) (signedBetween mostDown mostDown (p .down))) (within-test mostLevel (p .north) (h .north))
+    (both-true (signedBetween mostLevel mostLevel (p .east)) (signedBetween mostDown mostDown (p .down)) (within-test mostLevel (p .east) (h .east)) (within-test mostDown (p .down) (h .down)))
 
 -- ---- radii
 pub arc-least : (R : ℕ) → arcRadius R ≡ true → leastRadius ≤ R

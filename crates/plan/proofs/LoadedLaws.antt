@@ -9,21 +9,21 @@ use lib.Dec.{eqb, ltb}
 use lib.IntN.{pos}
 use lib.ListN.{length, List·getD-eq-default}
 use borrow.Author.Tests.{eqb-true, eqb-false, ltb-true, ltb-false}
-use Rattle.integers.specs.Choose.{choose}
-use Rattle.integers.proofs.ChooseLaws.{choose-true, choose-false}
+use Rattle.conditions.specs.Choose.{choose}
+use Rattle.conditions.specs.Both.{both}
+use Rattle.conditions.proofs.ChooseLaws.{choose-true, choose-false}
+use Rattle.conditions.proofs.Bools.{by-bool, clash, both-true}
 use Rattle.refusals.specs.Outcome.{isGood}
-use Rattle.refusals.specs.Sweep.{both}
-use Rattle.refusals.proofs.Bools.{by-bool, clash, both-true}
 use Rattle.refusals.proofs.SweepLaws.{every-of}
 use Rattle.plane.specs.declared.Point.{Point}
 use Rattle.plane.specs.Area.{InArea}
 use Rattle.plan.specs.declared.Mode.{Mode}
 use Rattle.plan.specs.declared.Mode.the-variants.{Lines, Fillets, Dubins}
-use Rattle.plan.specs.Limits.{mostPoints, leastRadius, mostRadius, courses, betweenOf, insideOf, zeroOf, arcRadius, radiusFits}
+use Rattle.plan.specs.Limits.{mostPoints, leastRadius, mostRadius, fullCircle, signedBetween, insideOf, zeroOf, arcRadius, radiusFits}
 use Rattle.plan.specs.Places.{noPoint, pointsAt, coursesAt}
 use Rattle.plan.specs.Rules.{modeOf, coursesFit}
 use Rattle.plan.specs.Stands.{givenOf, pointFits, courseFits, valuesFit, placeFits, placesFit, rulesOf, standsOf}
-use Rattle.plan.specs.Loaded.{planOf, Loads}
+use Rattle.plan.specs.Loaded.{planOf, Loadable}
 use Rattle.plan.proofs.LimitLaws.{area-test, arc-test, course-test}
 use Rattle.plan.proofs.PlaceLaws.{padded-at, points-padded, rules-padded}
 use Rattle.plan.proofs.RuleLaws.{Passed, rules-passed}
@@ -63,7 +63,7 @@ mode-radius R given h =
 
 -- ---- the places
 none-zero : zeroOf noPoint ≡ true
-unfolding zeroOf insideOf betweenOf both
+unfolding zeroOf insideOf signedBetween both
 none-zero = refl
 
 point-listed : (ps : List Point) → ((i : ℕ) → i < length ps → InArea (pointsAt ps i)) → (i : ℕ) → pointFits (ltb i (length ps)) (pointsAt ps i) ≡ true
@@ -73,15 +73,15 @@ point-listed ps h i =
     (λ t. choose-true _ _ _ t ∙ area-test (pointsAt ps i) (h i (ltb-true i (length ps) t)))
     (λ u. choose-false _ _ _ u ∙ ap zeroOf (List·getD-eq-default ps noPoint {n = i} (ltb-false i (length ps) u)) ∙ none-zero)
 
-course-listed : (cs : List ℕ) → ((i : ℕ) → i < length cs → coursesAt cs i < courses) → (i : ℕ) → courseFits (ltb i (length cs)) (pos (coursesAt cs i)) ≡ true
+course-listed : (cs : List ℕ) → ((i : ℕ) → i < length cs → coursesAt cs i < fullCircle) → (i : ℕ) → courseFits (ltb i (length cs)) (pos (coursesAt cs i)) ≡ true
 unfolding courseFits
 course-listed cs h i =
     by-bool (ltb i (length cs))
-    (λ t. choose-true _ _ _ t ∙ course-test (courses - 1) (coursesAt cs i) (omega (arith, h i (ltb-true i (length cs) t))))
+    (λ t. choose-true _ _ _ t ∙ course-test (fullCircle - 1) (coursesAt cs i) (omega (arith, h i (ltb-true i (length cs) t))))
     (λ u. choose-false _ _ _ u ∙ course-test 0 (coursesAt cs i) (omega (arith, List·getD-eq-default cs 0 {n = i} (ltb-false i (length cs) u))))
 
 -- ---- the plan
-module _ (serial R : ℕ) (ps : List Point) (cs : List ℕ) (l : Loads serial R ps cs) where
+module _ (serial R : ℕ) (ps : List Point) (cs : List ℕ) (l : Loadable serial R ps cs) where
   passed : Passed (modeOf R (length cs)) R (length cs) (length ps) (pointsAt ps) (coursesAt cs)
   passed = rules-passed (modeOf R (length cs)) R (length cs) (length ps) (pointsAt ps) (coursesAt cs) (l .rules)
 

@@ -4,7 +4,7 @@ use native.Mathlib.Omega.{arith}
 use lib.Dec.{eqb}
 use lib.IntN.{ℤ, pos, _-ℤ_}
 use borrow.Author.Tests.{eq-eqb, ne-eqb}
-use Rattle.integers.proofs.ChooseLaws.{choose-true, choose-false}
+use Rattle.conditions.proofs.ChooseLaws.{choose-true, choose-false}
 use Rattle.integers.proofs.Ring.{v, lit, sub, same, same-of}
 use Rattle.refusals.specs.Numbers.{equalNeighbours}
 use Rattle.course.specs.declared.Vector.{Vector}

@@ -15,7 +15,7 @@ use Rattle.integers.proofs.BoundLaws.{kept}
 use Rattle.plane.specs.declared.Point.{Point}
 use Rattle.plane.specs.Area.{InArea}
 use Rattle.plan.specs.declared.Mode.{Mode}
-use Rattle.plan.specs.Limits.{mostPoints, courses}
+use Rattle.plan.specs.Limits.{mostPoints, fullCircle}
 use Rattle.plan.specs.Places.{noPoint, pointsAt, coursesAt, placeAt, courseAt, padded}
 use Rattle.plan.specs.Rules.{rulesOn}
 use Rattle.plan.specs.Stands.{IsCourse, There, Placed, Aiming, Counted}
@@ -35,13 +35,13 @@ module _ {ns es ds : List ℤ} {n : ℕ} (h : Counted ns es ds n) (i : ℕ) wher
 pub area-at : {ns es ds : List ℤ} {i : ℕ} {p : Point} → p ≡ placeAt ns es ds i → Placed ns es ds i → InArea p
 area-at e h = subst InArea (sym e) (h .area)
 
-pub course-low : {cs : List ℤ} {i χ : ℕ} → χ ≡ courseAt cs i → Aiming cs i → χ < courses
-course-low e h = subst (λ (n : ℕ). n < courses) (sym e) (h .course .low)
+pub course-low : {cs : List ℤ} {i χ : ℕ} → χ ≡ courseAt cs i → Aiming cs i → χ < fullCircle
+course-low e h = subst (λ (n : ℕ). n < fullCircle) (sym e) (h .course .low)
 
 -- and read as a number with no sign
 pub course-casts : (z : ℤ) → IsCourse z → T (nonNeg (toZ w32 (ofZ w32 z))) × Fits w64 (natAbs (toZ w32 (ofZ w32 z)))
 course-casts z h =
-    let w : Within courses z = record { within = omega (arith, h .low) } in
+    let w : Within fullCircle z = record { within = omega (arith, h .low) } in
     let e = kept w32 w tt ∙ h .sign in
     subst (λ (x : ℤ). T (nonNeg x) × Fits w64 (natAbs x)) (sym e) (tt, record { fits = omega (arith, h .low) })
 

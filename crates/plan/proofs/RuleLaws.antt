@@ -5,16 +5,16 @@ use Prim.Native.Nat.{ℕ, _+_, _-_, _≤_, _<_}
 use native.Mathlib.Omega.{arith}
 use lib.Dec.{eqb, ltb}
 use borrow.Author.Tests.{eqb-false, ltb-false, leb-true, le-leb, lt-leb}
-use Rattle.integers.specs.Choose.{choose}
+use Rattle.conditions.specs.Choose.{choose}
+use Rattle.conditions.proofs.Bools.{clash}
 use Rattle.refusals.specs.Numbers.{pointCount, courseCount}
 use Rattle.refusals.specs.declared.Refusal.{Refusal}
 use Rattle.refusals.specs.Outcome.{Outcome, good, refused, check, andThen, refusalOf, isGood}
 use Rattle.refusals.specs.Sweep.{Done, done}
-use Rattle.refusals.proofs.Bools.{clash}
 use Rattle.refusals.proofs.OutcomeLaws.{Proper, check-true, check-false, check-first, check-rest, then-good, then-refused, good-first, proper-check, proper-then}
 use Rattle.refusals.proofs.SweepLaws.{sweep-means, sweep-zeros, sweep-done, good-is, proper-sweep}
 use Rattle.plane.specs.declared.Point.{Point}
-use Rattle.fillets.specs.Corners.{turnOf}
+use Rattle.fillets.specs.Corners.{cornerTurn}
 use Rattle.dubins.specs.Choice.{hasPathOf, farApart}
 use Rattle.plan.specs.declared.Mode.{Mode}
 use Rattle.plan.specs.declared.Mode.the-variants.{Lines, Fillets, Dubins}
@@ -34,10 +34,10 @@ path-has true false h = absurd (omega arith)
 path-has false b h = absurd (omega arith)
 
 pub corner-turns : (n : ℕ) (at : ℕ → Point) → isGood (cornersOf Fillets n at) ≡ true
-    → (i : ℕ) → 1 ≤ i → i + 1 < n → turnOf (at (i - 1)) (at i) (at (i + 1)) ≤ mostTurn
+    → (i : ℕ) → 1 ≤ i → i + 1 < n → cornerTurn (at (i - 1)) (at i) (at (i + 1)) ≤ mostTurn
 unfolding cornersOf cornerNumber
 corner-turns n at h i l m =
-    turn-low (turnOf (at (i - 1)) (at i) (at (i + 1))) (ltb mostTurn (turnOf (at (i - 1)) (at i) (at (i + 1)))) refl
+    turn-low (cornerTurn (at (i - 1)) (at i) (at (i + 1))) (ltb mostTurn (cornerTurn (at (i - 1)) (at i) (at (i + 1)))) refl
     (sweep-means (cornerAt Fillets at) (n - 1 - 1) 1 h i l (omega arith))
 
 pub leg-paths : (R n : ℕ) (at : ℕ → Point) (course : ℕ → ℕ) → isGood (legsOf Dubins R n at course) ≡ true

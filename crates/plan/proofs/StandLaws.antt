@@ -7,19 +7,20 @@ use native.Mathlib.Omega.{arith}
 use lib.Dec.{eqb, ltb}
 use lib.IntN.{ℤ}
 use borrow.Author.Tests.{eqb-false, leb-true, le-leb, ne-eqb, not-true}
-use Rattle.integers.specs.Choose.{choose}
+use Rattle.conditions.specs.Choose.{choose}
+use Rattle.conditions.specs.Both.{both}
+use Rattle.conditions.proofs.Bools.{by-bool, both-on, both-first, both-second}
 use Rattle.refusals.specs.declared.Refusal.{Refusal}
 use Rattle.refusals.specs.Outcome.{refusalOf, isGood}
-use Rattle.refusals.specs.Sweep.{both, every}
-use Rattle.refusals.proofs.Bools.{by-bool, both-on, both-first, both-second}
+use Rattle.refusals.specs.Sweep.{every}
 use Rattle.refusals.proofs.SweepLaws.{every-means, every-same, every-both, every-change}
 use Rattle.plane.specs.declared.Point.{Point}
 use Rattle.plane.specs.Area.{InArea}
 use Rattle.plan.specs.declared.Mode.{Mode}
 use Rattle.plan.specs.declared.Mode.the-variants.{Lines, Fillets, Dubins}
 use Rattle.plan.specs.declared.Plan.{Plan}
-use Rattle.plan.specs.Limits.{fewestPoints, mostPoints, mostLevel, mostDown, mostRadius, courses, betweenOf, numberFits, radiusFits}
-use Rattle.plan.specs.Places.{numberAt, placeAt, pointOf, courseOf}
+use Rattle.plan.specs.Limits.{fewestPoints, mostPoints, mostLevel, mostDown, mostRadius, fullCircle, signedBetween, numberFits, radiusFits}
+use Rattle.plan.specs.Places.{numberAt, placeAt, planPoint, planCourse}
 use Rattle.plan.specs.Rules.{modeOf, cornersOf, legsOf}
 use Rattle.plan.specs.Stands.{givenOf, pointFits, courseFits, valuesFit, placeFits, placesFit, rulesOf, standsOf, Ranged, Aimed, IsCourse, Placed, Aiming, Long, ByMode, Stands}
 use Rattle.plan.proofs.LimitLaws.{area-means, zero-area, course-means, point-numbers, arc-least, radius-most}
@@ -33,11 +34,11 @@ point-area false p h = zero-area p h
 
 course-low : (used : Bool) (χ : ℤ) → courseFits used χ ≡ true → IsCourse χ
 unfolding courseFits choose
-course-low true χ h = course-means (courses - 1) χ (omega arith) h
+course-low true χ h = course-means (fullCircle - 1) χ (omega arith) h
 course-low false χ h = course-means 0 χ (omega arith) h
 
 place-means : (p : Plan) → placesFit p ≡ true → (i : ℕ) → i < mostPoints
-    → (pointFits (ltb i (p .head .count)) (pointOf p i) ≡ true) × (courseFits (ltb i (givenOf (p .head .mode) (p .head .count))) (numberAt (p .courses) i) ≡ true)
+    → (pointFits (ltb i (p .head .count)) (planPoint p i) ≡ true) × (courseFits (ltb i (givenOf (p .head .mode) (p .head .count))) (numberAt (p .courses) i) ≡ true)
 unfolding placesFit placeFits valuesFit
 place-means p h i l =
     let e = every-means (placeFits p) (mostPoints - 0) 0 h i (omega arith) (omega arith) in
@@ -45,7 +46,7 @@ place-means p h i l =
 
 pub places-mean : (p : Plan) → placesFit p ≡ true → Ranged p × Aimed p
 places-mean p h =
-    ((λ i l. point-area (ltb i (p .head .count)) (pointOf p i) (place-means p h i l .0)), (λ i l. course-low (ltb i (givenOf (p .head .mode) (p .head .count))) (numberAt (p .courses) i) (place-means p h i l .1)))
+    ((λ i l. point-area (ltb i (p .head .count)) (planPoint p i) (place-means p h i l .0)), (λ i l. course-low (ltb i (givenOf (p .head .mode) (p .head .count))) (numberAt (p .courses) i) (place-means p h i l .1)))
 
 -- ---- the places of each kind of number by themselves: those in use and the others
 module _ (values : List ℤ) (used : ℕ) (low high : ℕ) where
@@ -53,13 +54,13 @@ module _ (values : List ℤ) (used : ℕ) (low high : ℕ) where
   numbersFit = every (λ (i : ℕ). numberFits (ltb i used) low high (numberAt values i)) (mostPoints - 0) 0
 
   abbrev pub usedFit : Bool
-  usedFit = every (λ (i : ℕ). betweenOf low high (numberAt values i)) (used - 0) 0
+  usedFit = every (λ (i : ℕ). signedBetween low high (numberAt values i)) (used - 0) 0
 
   abbrev pub unusedFit : Bool
-  unusedFit = every (λ (i : ℕ). betweenOf 0 0 (numberAt values i)) (mostPoints - used) used
+  unusedFit = every (λ (i : ℕ). signedBetween 0 0 (numberAt values i)) (mostPoints - used) used
 
   pub number-parts : used ≤ mostPoints → numbersFit ≡ both usedFit unusedFit
-  number-parts l = every-change (λ (i : ℕ). betweenOf low high (numberAt values i)) (λ (i : ℕ). betweenOf 0 0 (numberAt values i)) used mostPoints l
+  number-parts l = every-change (λ (i : ℕ). signedBetween low high (numberAt values i)) (λ (i : ℕ). signedBetween 0 0 (numberAt values i)) used mostPoints l
 
 -- all points
 module _ (ns es ds : List ℤ) (n : ℕ) where
@@ -92,12 +93,12 @@ module _ (ns es ds : List ℤ) (n : ℕ) where
       ∙ ap (both northsFit) (every-both east down (mostPoints - 0) 0)
 
 abbrev pub coursesFit : List ℤ → ℕ → Bool
-coursesFit cs given = numbersFit cs given 0 (courses - 1)
+coursesFit cs given = numbersFit cs given 0 (fullCircle - 1)
 
 pub places-parts : (p : Plan) → placesFit p ≡ both (pointsFit (p .norths) (p .easts) (p .downs) (p .head .count)) (coursesFit (p .courses) (givenOf (p .head .mode) (p .head .count)))
 unfolding placesFit placeFits valuesFit courseFits
 places-parts p =
-    every-both (λ (i : ℕ). pointFits (ltb i (p .head .count)) (pointOf p i)) (λ (i : ℕ). courseFits (ltb i (givenOf (p .head .mode) (p .head .count))) (numberAt (p .courses) i)) (mostPoints - 0) 0
+    every-both (λ (i : ℕ). pointFits (ltb i (p .head .count)) (planPoint p i)) (λ (i : ℕ). courseFits (ltb i (givenOf (p .head .mode) (p .head .count))) (numberAt (p .courses) i)) (mostPoints - 0) 0
 
 -- what places that fit give, where all are there
 pub placed-of : (p : Plan) → Long (p .norths) (p .easts) (p .downs) (p .courses) → Ranged p → (i : ℕ) → i < mostPoints → Placed (p .norths) (p .easts) (p .downs) i
@@ -125,7 +126,7 @@ module _ (p : Plan) where
       → (r : Refusal) → r ≡ refusalOf (rulesOf p (givenOf (p .head .mode) (p .head .count))) → eqb (r .number) 0 ≡ standsOf p
   stands-found s m t h r e =
       ap (λ (x : Refusal). eqb (x .number) 0) e
-      ∙ sym (stands-rules s m t h ∙ rules-proper (p .head .mode) (p .head .radius) (givenOf (p .head .mode) (p .head .count)) (p .head .count) (pointOf p) (courseOf p))
+      ∙ sym (stands-rules s m t h ∙ rules-proper (p .head .mode) (p .head .radius) (givenOf (p .head .mode) (p .head .count)) (p .head .count) (planPoint p) (planCourse p))
 
   pub tests-stand : Tests p → standsOf p ≡ true
   tests-stand t = stands-rules (t .serial) (t .most) (t .radius) (t .places) ∙ t .rules
@@ -148,17 +149,17 @@ module _ (p : Plan) where
   stands-fails f = by-bool (standsOf p) (λ t. absurd (f (stands-tests t))) (λ u. u)
 
 -- ---- what they mean
-by-mode : (p : Plan) (mode : Mode) → p .head .radius ≤ mostRadius → Aimed p → isGood (cornersOf mode (p .head .count) (pointOf p)) ≡ true
-    → isGood (legsOf mode (p .head .radius) (p .head .count) (pointOf p) (courseOf p)) ≡ true → ByMode mode p
+by-mode : (p : Plan) (mode : Mode) → p .head .radius ≤ mostRadius → Aimed p → isGood (cornersOf mode (p .head .count) (planPoint p)) ≡ true
+    → isGood (legsOf mode (p .head .radius) (p .head .count) (planPoint p) (planCourse p)) ≡ true → ByMode mode p
 by-mode p Lines r a c l = tt
-by-mode p Fillets r a c l = (r, corner-turns (p .head .count) (pointOf p) c)
-by-mode p Dubins r a c l = (r, (a, leg-paths (p .head .radius) (p .head .count) (pointOf p) (courseOf p) l))
+by-mode p Fillets r a c l = (r, corner-turns (p .head .count) (planPoint p) c)
+by-mode p Dubins r a c l = (r, (a, leg-paths (p .head .radius) (p .head .count) (planPoint p) (planCourse p) l))
 
 pub stands-means : (p : Plan) → standsOf p ≡ true → Stands p
 stands-means p h =
     let t = stands-tests p h in
     let n = places-mean p (t .places) in
-    let r = rules-passed (p .head .mode) (p .head .radius) (givenOf (p .head .mode) (p .head .count)) (p .head .count) (pointOf p) (courseOf p) (t .rules) in
+    let r = rules-passed (p .head .mode) (p .head .radius) (givenOf (p .head .mode) (p .head .count)) (p .head .count) (planPoint p) (planCourse p) (t .rules) in
     record { least = r .least; most = r .most; ranged = n .0; mode = by-mode p (p .head .mode) (radius-most (p .head .mode) (p .head .radius) (t .radius)) (n .1) (r .corners) (r .legs) }
 
 -- ---- the mode is that of the radius and of the number of courses

@@ -9,7 +9,7 @@ use native.Mathlib.Decide.{decLt}
 use lib.Dec.{T, leb, leb→le}
 use lib.IntN.{ℤ, pos, negℤ, natAbs, _+ℤ_}
 use borrow.Author.Tests.{le-leb, lt-leb}
-use Rattle.integers.proofs.ChooseLaws.{choose-true, choose-false}
+use Rattle.conditions.proofs.ChooseLaws.{choose-true, choose-false}
 use Rattle.integers.proofs.RootLaws.{root-least}
 use Rattle.integers.proofs.Ring.{lit, neg, add, same}
 use Rattle.course.specs.Table.{series, scaledSine, sineOf}
@@ -17,7 +17,7 @@ use Rattle.course.specs.Direction.{directionOf}
 use Rattle.course.proofs.TableLaws.{all, at, sine-0, sine-most}
 use Rattle.course.proofs.DirectionLaws.{direction-here, turned-0, turned-1}
 use Rattle.plane.specs.declared.Point.{Point}
-use Rattle.plane.specs.Level.{levelLegOf, squareOf, lengthOf}
+use Rattle.plane.specs.Level.{levelLegOf, squareOf, vectorLength}
 use Rattle.fillets.specs.Corners.{tangentOf}
 use Rattle.fillets.proofs.TangentLaws.{magnitudes}
 use Rattle.plan.specs.Rules.{tangentNumber}
@@ -69,17 +69,17 @@ tangent-none R =
 
 -- ---- 12 from the squared length of a leg
 module _ (a b : Point) (squared tangents : ℕ) (e : squared ≡ squareOf (levelLegOf a b)) where
-  tested : leb tangents (lengthOf (levelLegOf a b)) ≡ leb (tangents * tangents) squared
-  unfolding lengthOf
+  tested : leb tangents (vectorLength (levelLegOf a b)) ≡ leb (tangents * tangents) squared
+  unfolding vectorLength
   tested = root-least (squareOf (levelLegOf a b)) tangents ∙ ap (leb (tangents * tangents)) (sym e)
 
   pub leg-passes : tangents * tangents ≤ squared → 0 ≡ tangentNumber a b tangents
   unfolding tangentNumber
-  leg-passes h = sym (choose-true (leb tangents (lengthOf (levelLegOf a b))) 0 12 (tested ∙ le-leb (tangents * tangents) squared h))
+  leg-passes h = sym (choose-true (leb tangents (vectorLength (levelLegOf a b))) 0 12 (tested ∙ le-leb (tangents * tangents) squared h))
 
   pub leg-short : squared < tangents * tangents → 12 ≡ tangentNumber a b tangents
   unfolding tangentNumber
-  leg-short h = sym (choose-false (leb tangents (lengthOf (levelLegOf a b))) 0 12 (tested ∙ lt-leb (tangents * tangents) squared h))
+  leg-short h = sym (choose-false (leb tangents (vectorLength (levelLegOf a b))) 0 12 (tested ∙ lt-leb (tangents * tangents) squared h))
 
 -- and so without its tangent lengths, where both turns are easy
 pub easy-passes : (a b : Point) (squared R t u : ℕ) → squared ≡ squareOf (levelLegOf a b) → t ≤ 1168 → u ≤ 1168 → 5 * R / 2 * (5 * R / 2) ≤ squared

@@ -4,8 +4,8 @@ use Prim.Native.Nat.{ℕ}
 use lib.Dec.{leb, eqb}
 use lib.IntN.{ℤ, pos, negℤ}
 use lib.Signed.{leZ}
-use Rattle.integers.specs.Choose.{choose}
-use Rattle.refusals.specs.Sweep.{both}
+use Rattle.conditions.specs.Choose.{choose}
+use Rattle.conditions.specs.Both.{both}
 use Rattle.plane.specs.declared.Point.{Point}
 use Rattle.plan.specs.declared.Mode.{Mode}
 use Rattle.plan.specs.declared.Mode.the-variants.{Lines, Fillets, Dubins}
@@ -28,25 +28,25 @@ leastRadius = 50
 abbrev pub mostRadius : ℕ
 mostRadius = 10000
 
--- a course is below it
-abbrev pub courses : ℕ
-courses = 4096
+-- in units of a course, each of which is below it
+abbrev pub fullCircle : ℕ
+fullCircle = 4096
 
 -- "fillets: turn above 1,792" is refused
 abbrev pub mostTurn : ℕ
 mostTurn = 1792
 
 -- -low ≤ z ≤ high
-unfoldable pub betweenOf : ℕ → ℕ → ℤ → Bool
-betweenOf low high z = both (leZ (negℤ (pos low)) z) (leZ z (pos high))
+unfoldable pub signedBetween : ℕ → ℕ → ℤ → Bool
+signedBetween low high z = both (leZ (negℤ (pos low)) z) (leZ z (pos high))
 
 -- so, or 0 where the place is unused
 abbrev pub numberFits : Bool → ℕ → ℕ → ℤ → Bool
-numberFits used low high z = choose used (betweenOf low high z) (betweenOf 0 0 z)
+numberFits used low high z = choose used (signedBetween low high z) (signedBetween 0 0 z)
 
 -- north and east in ± one limit, down in ± another
 unfoldable pub insideOf : ℕ → ℕ → Point → Bool
-insideOf level down p = both (betweenOf level level (p .north)) (both (betweenOf level level (p .east)) (betweenOf down down (p .down)))
+insideOf level down p = both (signedBetween level level (p .north)) (both (signedBetween level level (p .east)) (signedBetween down down (p .down)))
 
 unfoldable pub inAreaOf : Point → Bool
 inAreaOf p = insideOf mostLevel mostDown p

@@ -10,7 +10,7 @@ use Rattle.refusals.specs.Outcome.{isGood}
 use Rattle.plane.specs.declared.Point.{Point}
 use Rattle.plane.specs.Area.{InArea}
 use Rattle.plan.specs.declared.Plan.{Plan}
-use Rattle.plan.specs.Limits.{mostPoints, leastRadius, mostRadius, courses}
+use Rattle.plan.specs.Limits.{mostPoints, leastRadius, mostRadius, fullCircle}
 use Rattle.plan.specs.Places.{pointsAt, coursesAt, padded}
 use Rattle.plan.specs.Rules.{modeOf, rulesOn}
 
@@ -25,9 +25,9 @@ planOf serial R ps cs =
       courses = padded pos mostPoints (pos 0) cs;
     }
 
-pub record Loads (serial R : ℕ) (ps : List Point) (cs : List ℕ) : Type 0 where
+pub record Loadable (serial R : ℕ) (ps : List Point) (cs : List ℕ) : Type 0 where
   pub numbered : serial ≡ 0 → ⊥
   pub radius : (R ≡ 0) ⊎ ((leastRadius ≤ R) × (R ≤ mostRadius))
   pub ranged : (i : ℕ) → i < length ps → InArea (pointsAt ps i)
-  pub aimed : (i : ℕ) → i < length cs → coursesAt cs i < courses
+  pub aimed : (i : ℕ) → i < length cs → coursesAt cs i < fullCircle
   pub rules : isGood (rulesOn (modeOf R (length cs)) R (length cs) (length ps) (pointsAt ps) (coursesAt cs)) ≡ true

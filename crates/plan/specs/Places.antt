@@ -34,11 +34,11 @@ placeAt norths easts downs i = record { north = numberAt norths i; east = number
 abbrev pub courseAt : List ℤ → ℕ → ℕ
 courseAt courses i = natAbs (numberAt courses i)
 
-abbrev pub pointOf : Plan → ℕ → Point
-pointOf p = placeAt (p .norths) (p .easts) (p .downs)
+abbrev pub planPoint : Plan → ℕ → Point
+planPoint p = placeAt (p .norths) (p .easts) (p .downs)
 
-abbrev pub courseOf : Plan → ℕ → ℕ
-courseOf p = courseAt (p .courses)
+abbrev pub planCourse : Plan → ℕ → ℕ
+planCourse p = courseAt (p .courses)
 
 -- the plan of a head and lent numbers
 abbrev pub seen : Head → List ℤ → List ℤ → List ℤ → List ℤ → Plan

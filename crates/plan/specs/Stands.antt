@@ -6,21 +6,22 @@ use Prim.Native.Nat.{ℕ, _-_, _+_, _≤_, _<_}
 use lib.Dec.{eqb, leb, ltb}
 use lib.IntN.{ℤ, pos, natAbs}
 use lib.ListN.{length}
-use Rattle.integers.specs.Choose.{choose}
+use Rattle.conditions.specs.Choose.{choose}
+use Rattle.conditions.specs.Both.{both}
 use Rattle.refusals.specs.Outcome.{Outcome, isGood}
-use Rattle.refusals.specs.Sweep.{Done, both, every}
+use Rattle.refusals.specs.Sweep.{Done, every}
 use Rattle.course.specs.Bearing.{bearingOf}
 use Rattle.plane.specs.declared.Point.{Point}
 use Rattle.plane.specs.Area.{InArea}
 use Rattle.plane.specs.Level.{levelLegOf, squareOf}
-use Rattle.fillets.specs.Corners.{turnOf}
+use Rattle.fillets.specs.Corners.{cornerTurn}
 use Rattle.dubins.specs.Choice.{hasPathOf}
 use Rattle.plan.specs.declared.LevelLeg.{LevelLeg}
 use Rattle.plan.specs.declared.Mode.{Mode}
 use Rattle.plan.specs.declared.Mode.the-variants.{Lines, Fillets, Dubins}
 use Rattle.plan.specs.declared.Plan.{Plan}
-use Rattle.plan.specs.Limits.{fewestPoints, mostPoints, mostRadius, mostTurn, courses, numberFits, inAreaOf, zeroOf, radiusFits}
-use Rattle.plan.specs.Places.{numberAt, placeAt, pointOf, courseOf}
+use Rattle.plan.specs.Limits.{fewestPoints, mostPoints, mostRadius, mostTurn, fullCircle, numberFits, inAreaOf, zeroOf, radiusFits}
+use Rattle.plan.specs.Places.{numberAt, placeAt, planPoint, planCourse}
 use Rattle.plan.specs.Rules.{endsAt, rulesOn}
 
 -- how many points of a plan have a course
@@ -35,20 +36,20 @@ pointFits used p = choose used (inAreaOf p) (zeroOf p)
 
 -- a course, or zero where the point has none
 unfoldable pub courseFits : Bool → ℤ → Bool
-courseFits used χ = numberFits used 0 (courses - 1) χ
+courseFits used χ = numberFits used 0 (fullCircle - 1) χ
 
 -- the point and the course at a place
 unfoldable pub valuesFit : Bool → Point → Bool → ℤ → Bool
 valuesFit used p aimed χ = both (pointFits used p) (courseFits aimed χ)
 
 unfoldable pub placeFits : Plan → ℕ → Bool
-placeFits p i = valuesFit (ltb i (p .head .count)) (pointOf p i) (ltb i (givenOf (p .head .mode) (p .head .count))) (numberAt (p .courses) i)
+placeFits p i = valuesFit (ltb i (p .head .count)) (planPoint p i) (ltb i (givenOf (p .head .mode) (p .head .count))) (numberAt (p .courses) i)
 
 unfoldable pub placesFit : Plan → Bool
 placesFit p = every (placeFits p) (mostPoints - 0) 0
 
 abbrev pub rulesOf : Plan → ℕ → Outcome Done
-rulesOf p given = rulesOn (p .head .mode) (p .head .radius) given (p .head .count) (pointOf p) (courseOf p)
+rulesOf p given = rulesOn (p .head .mode) (p .head .radius) given (p .head .count) (planPoint p) (planCourse p)
 
 unfoldable pub standsOf : Plan → Bool
 standsOf p =
@@ -60,19 +61,19 @@ standsOf p =
 
 -- ---- what the functions ask of a plan and tell of it. The places of a plan are those below mostPoints.
 abbrev pub Ranged : Plan → Type 0
-Ranged p = (i : ℕ) → i < mostPoints → InArea (pointOf p i)
+Ranged p = (i : ℕ) → i < mostPoints → InArea (planPoint p i)
 
 -- a number that is a course
 pub record IsCourse (χ : ℤ) : Type 0 where
   pub sign : χ ≡ pos (natAbs χ)
-  pub low : natAbs χ < courses
+  pub low : natAbs χ < fullCircle
 
 abbrev pub Aimed : Plan → Type 0
 Aimed p = (i : ℕ) → i < mostPoints → IsCourse (numberAt (p .courses) i)
 
 -- 11 has passed a plan of fillets
 abbrev pub Turns : Plan → Type 0
-Turns p = (i : ℕ) → 1 ≤ i → i + 1 < p .head .count → turnOf (pointOf p (i - 1)) (pointOf p i) (pointOf p (i + 1)) ≤ mostTurn
+Turns p = (i : ℕ) → 1 ≤ i → i + 1 < p .head .count → cornerTurn (planPoint p (i - 1)) (planPoint p i) (planPoint p (i + 1)) ≤ mostTurn
 
 -- before the rules are asked
 pub record Bounded (p : Plan) : Type 0 where
@@ -94,7 +95,7 @@ pub record Placed (norths easts downs : List ℤ) (i : ℕ) : Type 0 where
 -- what the leg from a to b is in north and east; for proofs alone
 pub record IsLevelLeg (a b : Point) (leg : LevelLeg) : Type 0 where
   pub bearing : leg .bearing ≡ bearingOf (levelLegOf a b)
-  pub below : leg .bearing < courses
+  pub below : leg .bearing < fullCircle
   pub squared : leg .squared ≡ squareOf (levelLegOf a b)
 
 pub record Aiming (courses : List ℤ) (i : ℕ) : Type 0 where
@@ -125,7 +126,7 @@ ByMode Lines p = Unit {0}
 ByMode Fillets p = (p .head .radius ≤ mostRadius) × Turns p
 ByMode Dubins p =
     (p .head .radius ≤ mostRadius)
-    × (Aimed p × ((i : ℕ) → 1 ≤ i → i < p .head .count → hasPathOf (endsAt (p .head .radius) (pointOf p) (courseOf p) (i - 1) i) ≡ true))
+    × (Aimed p × ((i : ℕ) → 1 ≤ i → i < p .head .count → hasPathOf (endsAt (p .head .radius) (planPoint p) (planCourse p) (i - 1) i) ≡ true))
 
 -- what a plan that stands gives whoever flies it
 pub record Stands (p : Plan) : Type 0 where

@@ -7,7 +7,7 @@ ghost use mathlib.Core.Bool.{true};
 ghost use Prim.Native.Nat.{ℕ, _+_, _-_, _≤_, _<_};
 ghost use lib.Dec.{eqb, ltb};
 ghost use lib.ListN.{length};
-ghost use Rattle.integers.specs.Choose.{choose};
+ghost use Rattle.conditions.specs.Choose.{choose};
 ghost use Rattle.refusals.specs.Outcome.{andThen, refusalOf, isGood};
 ghost use Rattle.refusals.specs.Sweep.{Done, every};
 ghost use Rattle.plane.specs.Area.{InArea};
@@ -16,14 +16,14 @@ ghost use Rattle.plane.specs.Level.{levelLegOf, squareOf};
 ghost use Rattle.fillets.specs.Corners.{tangentOf};
 ghost use Rattle.dubins.specs.Limits.{IsEnds};
 ghost use Rattle.plan.specs.declared.Mode.the-variants.{Lines, Fillets, Dubins};
-ghost use Rattle.plan.specs.Limits.{mostPoints, mostRadius, mostTurn, inAreaOf, betweenOf, numberFits, arcRadius, radiusFits};
+ghost use Rattle.plan.specs.Limits.{mostPoints, mostRadius, mostTurn, inAreaOf, signedBetween, numberFits, arcRadius, radiusFits};
 ghost use Rattle.plan.specs.Places.{numberAt, placeAt, courseAt, noCourse, seen};
 ghost use Rattle.plan.specs.Rules.{modeOf, coursesFit, pairNumber, cornerNumber, tangentNumber, endsNumber, atPlace, endsAt, pairAt, cornerAt, pairsOf, cornersOf, legsOf, geometryOn};
 ghost use Rattle.plan.specs.Stands.{givenOf, pointFits, placesFit, rulesOf, standsOf, There, Placed, IsLevelLeg, Aiming, Counted, Fit, Long, Bounded, Stands};
 ghost use Rattle.plan.specs.Facts.{PlanFacts};
 
 // The most points of a plan, and the fewest.
-pub const POINTS: usize = 64;
+pub const MOST_POINTS: usize = 64;
 
 pub const FEWEST_POINTS: usize = 3;
 
@@ -37,9 +37,9 @@ pub const LEAST_RADIUS: u16 = 50;
 
 pub const MOST_RADIUS: u16 = 10000;
 
-pub const COURSES: u16 = 4096;
+pub const FULL_CIRCLE: u16 = 4096;
 
-const LAST_COURSE: u32 = COURSES as u32 - 1;
+const LAST_COURSE: u32 = FULL_CIRCLE as u32 - 1;
 
 // The greatest turn of a fillet corner, and the greatest whose tangent length is at most 5/4 of the radius: a little above a right angle, since
 // the corners of a survey come out some units above or below one.
@@ -64,10 +64,10 @@ pub struct Head {
 // A plan. Places past the count are zero, and so are a radius and courses that its mode does not use.
 pub struct Plan {
     pub head: Head,
-    pub norths: [i32; POINTS],
-    pub easts: [i32; POINTS],
-    pub downs: [i32; POINTS],
-    pub courses: [i32; POINTS],
+    pub norths: [i32; MOST_POINTS],
+    pub easts: [i32; MOST_POINTS],
+    pub downs: [i32; MOST_POINTS],
+    pub courses: [i32; MOST_POINTS],
 }
 
 // A leg in north and east: its bearing and its squared length.
@@ -77,7 +77,7 @@ struct LevelLeg {
 }
 
 // How many numbers the arrays of a plan have, and which stands where when they lie one after another.
-pub const NUMBERS: usize = 4 * POINTS;
+pub const NUMBERS: usize = 4 * MOST_POINTS;
 
 pub const NORTH_BLOCK: usize = 0;
 
@@ -107,8 +107,8 @@ pub fn course_at(courses: &[i32], i: usize) -> usize
 }
 
 // Whether -low ≤ z ≤ high: two comparisons, which the compiler makes one.
-fn between(z: i32, low: u32, high: u32) -> bool
-    ensures { λ r. ⌜ r ≡ betweenOf low high z ⌝ }
+fn signed_between(z: i32, low: u32, high: u32) -> bool
+    ensures { λ r. ⌜ r ≡ signedBetween low high z ⌝ }
 {
     let wide = z as i64;
     if 0 - (low as i64) <= wide {
@@ -121,9 +121,9 @@ fn between(z: i32, low: u32, high: u32) -> bool
 pub fn in_area(p: Point) -> bool
     ensures { λ r. ⌜ (r ≡ inAreaOf p) × (r ≡ true → InArea p) ⌝ }
 {
-    if between(p.north, MOST_LEVEL, MOST_LEVEL) {
-        if between(p.east, MOST_LEVEL, MOST_LEVEL) {
-            return between(p.down, MOST_DOWN, MOST_DOWN);
+    if signed_between(p.north, MOST_LEVEL, MOST_LEVEL) {
+        if signed_between(p.east, MOST_LEVEL, MOST_LEVEL) {
+            return signed_between(p.down, MOST_DOWN, MOST_DOWN);
         }
     }
     false
@@ -535,7 +535,7 @@ pub fn rules<'a>(
     if count < FEWEST_POINTS {
         return refusals::failed(refusals::POINT_COUNT);
     }
-    if POINTS < count {
+    if MOST_POINTS < count {
         return refusals::failed(refusals::POINT_COUNT);
     }
     if courses_fit(head.radius, given, count) {
@@ -548,12 +548,12 @@ pub fn rules<'a>(
 // compiler takes several at once.
 fn values_between(values: &[i32], from: usize, to: usize, low: u32, high: u32) -> bool
     requires { ⌜ (to ≤ mostPoints) × (to ≤ length (now values)) ⌝ }
-    ensures { λ r. ⌜ r ≡ every (λ (i : ℕ). betweenOf low high (numberAt (now (values .entry)) i)) (to - from) from ⌝ }
+    ensures { λ r. ⌜ r ≡ every (λ (i : ℕ). signedBetween low high (numberAt (now (values .entry)) i)) (to - from) from ⌝ }
 {
     let mut over: u32 = 0;
     let mut i = from;
     while i < to {
-        if !between(values[i], low, high) {
+        if !signed_between(values[i], low, high) {
             over += 1;
         }
         i += 1;
@@ -567,7 +567,7 @@ fn number_places_fit(values: &[i32], used: usize, low: u32, high: u32) -> bool
     ensures { λ r. ⌜ r ≡ every (λ (i : ℕ). numberFits (ltb i used) low high (numberAt (now (values .entry)) i)) (mostPoints - 0) 0 ⌝ }
 {
     if values_between(values, 0, used, low, high) {
-        return values_between(values, used, POINTS, 0, 0);
+        return values_between(values, used, MOST_POINTS, 0, 0);
     }
     false
 }
@@ -619,7 +619,7 @@ pub fn stands<'a>(
     if head.serial == 0 {
         return false;
     }
-    if POINTS < head.count {
+    if MOST_POINTS < head.count {
         return false;
     }
     let mode = head.mode;

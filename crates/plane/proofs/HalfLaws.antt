@@ -5,7 +5,7 @@ use Prim.Native.Nat.{ℕ}
 use lib.Dec.{leb}
 use lib.IntN.{ℤ, pos}
 use lib.Signed.{leZ}
-use Rattle.integers.specs.Choose.{choose}
+use Rattle.conditions.specs.Choose.{choose}
 use Rattle.plane.specs.Half.{squareTimes, halfPlane, HandHalves}
 
 pub hand-halves : HandHalves

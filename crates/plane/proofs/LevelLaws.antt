@@ -12,7 +12,7 @@ use Rattle.course.specs.Vectors.{Near, plain, cross}
 use Rattle.course.proofs.VectorLaws.{vector}
 use Rattle.plane.specs.declared.Point.{Point}
 use Rattle.plane.specs.Area.{InArea, levelOf}
-use Rattle.plane.specs.Level.{plus, minus, levelLegOf, dotOf, squareOf, lengthOf}
+use Rattle.plane.specs.Level.{plus, minus, levelLegOf, dotOf, squareOf, vectorLength}
 
 pub plus-near : (a b : Vector) {m n : ℕ} → Near m a → Near n b → Near (m + n) (plus a b)
 unfolding plus
@@ -54,6 +54,6 @@ square-zero v h = vector (zero-of (v .north) (omega (arith, square-sum v))) (zer
     zero-of (pos (suc n)) h = absurd (omega arith)
     zero-of (negsuc n) h = absurd (omega arith)
 
-pub length-le : (v : Vector) → Near 2000000 v → lengthOf v ≤ 2828427
-unfolding lengthOf
+pub length-le : (v : Vector) → Near 2000000 v → vectorLength v ≤ 2828427
+unfolding vectorLength
 length-le v h = omega (arith, root-lt (squareOf v) 2828428 (omega (arith, square-le v h)))

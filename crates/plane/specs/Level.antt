@@ -2,7 +2,7 @@
 use mathlib.Core.Bool.{Bool}
 use Prim.Native.Nat.{ℕ, _*_, _/_}
 use lib.IntN.{ℤ, pos, natAbs, _+ℤ_, _-ℤ_, _*ℤ_}
-use Rattle.integers.specs.Choose.{choose}
+use Rattle.conditions.specs.Choose.{choose}
 use Rattle.integers.specs.Wrap.{wrapOf}
 use Rattle.integers.specs.Root.{rootOf}
 use Rattle.course.specs.declared.Vector.{Vector}
@@ -27,8 +27,8 @@ unfoldable pub squareOf : Vector → ℕ
 squareOf v = natAbs (dotOf v v)
 
 -- "root of its squared length"
-unfoldable pub lengthOf : Vector → ℕ
-lengthOf v = rootOf (squareOf v)
+unfoldable pub vectorLength : Vector → ℕ
+vectorLength v = rootOf (squareOf v)
 
 -- "χ+1024" to the right, "χ−1024" to the left
 unfoldable pub sidewaysOf : ℕ → Bool → ℕ

@@ -1,3 +1,4 @@
 pub mod Area
 pub mod Level
 pub mod Half
+pub mod Samples

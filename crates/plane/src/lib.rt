@@ -6,7 +6,7 @@ ghost use Rattle.integers.specs.Bounds.{Within};
 ghost use Rattle.course.specs.Vectors.{Near, cross};
 ghost use Rattle.course.specs.Direction.{directionOf};
 ghost use Rattle.plane.specs.Area.{InArea, IsLeg, legOf, levelOf};
-ghost use Rattle.plane.specs.Level.{plus, minus, levelLegOf, dotOf, squareOf, lengthOf, sidewaysOf, arcOf};
+ghost use Rattle.plane.specs.Level.{plus, minus, levelLegOf, dotOf, squareOf, vectorLength, sidewaysOf, arcOf};
 ghost use Rattle.plane.specs.Half.{dot3Of, square3Of, halfPlane, HandHalves, metOf, minorSize, crossSize, oppositeOf};
 
 // A point of a plan or a position, in decimetres.
@@ -47,7 +47,7 @@ pub fn level(p: Point) -> Vector
 }
 
 // b - a
-pub fn between(a: Vector, b: Vector) -> Vector
+pub fn vector_between(a: Vector, b: Vector) -> Vector
     requires { ⌜ Near 1000000 a × Near 1000000 b ⌝ }
     ensures { λ r. ⌜ (r ≡ minus b a) × Near 2000000 r ⌝ }
 {
@@ -73,7 +73,7 @@ pub fn level_leg(a: Point, b: Point) -> Vector
     requires { ⌜ InArea a × InArea b ⌝ }
     ensures { λ r. ⌜ (r ≡ levelLegOf a b) × Near 1000000 r ⌝ }
 {
-    between(level(a), level(b))
+    vector_between(level(a), level(b))
 }
 
 // a·b
@@ -103,7 +103,7 @@ pub fn squared(v: Vector) -> u64
 // The length of v, rounded down.
 pub fn length(v: Vector) -> u64
     requires { ⌜ Near 2000000 v ⌝ }
-    ensures { λ r. ⌜ (r ≡ lengthOf v) × (r ≤ 2828427) ⌝ }
+    ensures { λ r. ⌜ (r ≡ vectorLength v) × (r ≤ 2828427) ⌝ }
 {
     integers::root(squared(v))
 }

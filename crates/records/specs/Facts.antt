@@ -7,54 +7,52 @@ use mathlib.Core.List.{List, [], _∷_, _++_}
 use Prim.Native.Nat.{ℕ, _≤_}
 use lib.IntN.{pos, negsuc}
 use lib.ListN.{replicate}
+use Rattle.conditions.specs.All.{All}
 use Rattle.refusals.specs.Numbers.{tooNew}
 use Rattle.refusals.specs.Outcome.{Outcome, good, refused}
 use Rattle.plane.specs.declared.Point.{Point}
 use Rattle.records.specs.Walk.{Walked, end, short, more, walk, fills, flat}
-use Rattle.records.specs.Kinds.{newest, row, table, Parts, noParts, holdsNewer, skipped, sift}
+use Rattle.records.specs.Versions.{newest}
+use Rattle.records.specs.Kinds.{row, table, Parts, noParts, holdsNewer, skipped, sift}
 use Rattle.records.specs.Gather.{headerLength, gather, gatherFrom}
 use Rattle.records.specs.Held.{counted}
 
 -- ---- what an example says, of a reader's version, a file's and the bytes of its records
-pub data Example : Type 0 where
+pub data RecordExample : Type 0 where
   -- a radius, points, courses, and whether a course may follow are gathered
-  gives : ℕ → ℕ → List ℕ → ℕ → List Point → List ℕ → Bool → Example
+  gives : ℕ → ℕ → List ℕ → ℕ → List Point → List ℕ → Bool → RecordExample
   -- a number at an offset of the file
-  refuses : ℕ → ℕ → List ℕ → ℕ → ℕ → Example
+  refuses : ℕ → ℕ → List ℕ → ℕ → ℕ → RecordExample
   -- whether they hold a radius or a course that a reader lacks
-  lacked : ℕ → List ℕ → Bool → Example
+  lacked : ℕ → List ℕ → Bool → RecordExample
   -- the records that they are
-  walks : List ℕ → Walked → Example
+  walks : List ℕ → Walked → RecordExample
   -- whether they fill the area
-  filled : List ℕ → Bool → Example
+  filled : List ℕ → Bool → RecordExample
   -- the bytes that are left without the records that reader three skips
-  sifts : List ℕ → List ℕ → Example
+  sifts : List ℕ → List ℕ → RecordExample
   -- whether reader three skips a kind
-  skips : ℕ → Bool → Example
+  skips : ℕ → Bool → RecordExample
   -- so many points or courses, up to one more than a plan holds
-  counts : ℕ → ℕ → Example
+  counts : ℕ → ℕ → RecordExample
 
 -- the records stand behind a header
 abbrev pub gathered : ℕ → ℕ → List ℕ → Outcome Parts
 gathered r v area = gatherFrom r v (replicate 11 0 ++ area) headerLength noParts
 
-abbrev pub Holds : Example → Type 0
-Holds (gives r v area R ps cs follows) = gathered r v area ≡ good (record { radius = R; points = ps; courses = cs; atPoint = follows })
-Holds (refuses r v area number place) = gathered r v area ≡ refused number place
-Holds (lacked r area t) = holdsNewer r (walk area) ≡ t
-Holds (walks area w) = walk area ≡ w
-Holds (filled area t) = fills (walk area) ≡ t
-Holds (sifts area rest) = flat (sift (walk area)) ≡ rest
-Holds (skips k t) = skipped k ≡ t
-Holds (counts n m) = counted n ≡ m
-
-abbrev pub All : List Example → Type 0
-All [] = Unit {0}
-All (x ∷ xs) = Holds x × All xs
+abbrev pub RecordHolds : RecordExample → Type 0
+RecordHolds (gives r v area R ps cs follows) = gathered r v area ≡ good (record { radius = R; points = ps; courses = cs; atPoint = follows })
+RecordHolds (refuses r v area number place) = gathered r v area ≡ refused number place
+RecordHolds (lacked r area t) = holdsNewer r (walk area) ≡ t
+RecordHolds (walks area w) = walk area ≡ w
+RecordHolds (filled area t) = fills (walk area) ≡ t
+RecordHolds (sifts area rest) = flat (sift (walk area)) ≡ rest
+RecordHolds (skips k t) = skipped k ≡ t
+RecordHolds (counts n m) = counted n ≡ m
 
 -- ---- records of examples: document 01's second point, at (1000, 0, −1000); negsuc n is −(n + 1)
-abbrev pub spot : Point
-spot = record { north = pos 1000; east = pos 0; down = negsuc 999 }
+abbrev pub secondPoint : Point
+secondPoint = record { north = pos 1000; east = pos 0; down = negsuc 999 }
 
 abbrev pub aPoint : List ℕ
 aPoint = 0x01 ∷ 0x0C ∷ 0x00 ∷ 0x00 ∷ 0x03 ∷ 0xE8 ∷ 0x00 ∷ 0x00 ∷ 0x00 ∷ 0x00 ∷ 0xFF ∷ 0xFF ∷ 0xFC ∷ 0x18 ∷ []
@@ -73,10 +71,10 @@ course0 = valued 3 0 0
 abbrev pub blank : ℕ → ℕ → List ℕ
 blank k n = k ∷ n ∷ replicate n 0
 
-abbrev pub examples : List Example
-examples =
-    gives 1 1 aPoint 0 (spot ∷ []) [] true
-    ∷ gives 3 3 (radius50 ++ aPoint ++ valued 3 0x0F 0xFF) 50 (spot ∷ []) (4095 ∷ []) false
+abbrev pub recordExamples : List RecordExample
+recordExamples =
+    gives 1 1 aPoint 0 (secondPoint ∷ []) [] true
+    ∷ gives 3 3 (radius50 ++ aPoint ++ valued 3 0x0F 0xFF) 50 (secondPoint ∷ []) (4095 ∷ []) false
     -- 6: "record cut short, of any kind", at its offset
     ∷ refuses 1 1 (1 ∷ []) 6 11
     ∷ refuses 1 1 (1 ∷ 12 ∷ 0 ∷ []) 6 11
@@ -128,8 +126,8 @@ examples =
     ∷ refuses 3 3 (radius50 ++ course0) 6 15
     ∷ refuses 3 3 (aPoint ++ course0 ++ course0) 6 29
     ∷ refuses 3 3 (aPoint ++ course0 ++ blank 128 1 ++ course0) 6 32
-    ∷ gives 3 3 (aPoint ++ blank 128 1 ++ course0) 0 (spot ∷ []) (0 ∷ []) false
-    ∷ gives 3 4 (aPoint ++ blank 200 1 ++ course0) 0 (spot ∷ []) (0 ∷ []) false
+    ∷ gives 3 3 (aPoint ++ blank 128 1 ++ course0) 0 (secondPoint ∷ []) (0 ∷ []) false
+    ∷ gives 3 4 (aPoint ++ blank 200 1 ++ course0) 0 (secondPoint ∷ []) (0 ∷ []) false
     -- "the records from the first"
     ∷ refuses 3 4 (blank 7 0 ++ valued 2 0 49) 7 11
     ∷ refuses 3 4 (valued 2 0 49 ++ blank 7 0) 6 11
@@ -170,7 +168,7 @@ pub record RecordFacts : Type 0 where
   pub kinds : table ≡ row 1 1 12 12 ∷ row 2 2 2 2 ∷ row 3 3 2 2 ∷ row 128 2 1 32 ∷ row 129 3 2 2 ∷ []
   pub header : headerLength ≡ 11
   pub versions : newest ≡ 3
-  pub each : All examples
+  pub each : All RecordHolds recordExamples
   -- records are their bytes
   pub walked : (w : Walked) → fills w ≡ true → walk (flat w) ≡ w
   pub written : (s : List ℕ) → fills (walk s) ≡ true → flat (walk s) ≡ s

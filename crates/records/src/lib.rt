@@ -1,8 +1,10 @@
 // The records of a plan file: kinds, their rules, and what a walk over them gathers (document 01, "The plan file").
-use plan::COURSES;
+use integers::ONE_BYTE;
+use integers::TWO_BYTES;
+use plan::FULL_CIRCLE;
 use plan::LEAST_RADIUS;
+use plan::MOST_POINTS;
 use plan::MOST_RADIUS;
-use plan::POINTS;
 use plane::Point;
 ghost use mathlib.Core.Path.{_≡_};
 ghost use Prim.Native.Nat.{ℕ, _+_, _*_, _<_};
@@ -14,35 +16,33 @@ ghost use Rattle.records.specs.Numbers.{u16At, u32At, i32At};
 ghost use Rattle.records.specs.Gather.{headerLength, gatherFrom, wholeEnd, verdictAt};
 ghost use Rattle.records.specs.Held.{counted, tallyOf, verdictOf, numbersIn, answerOf, gatheredOf};
 ghost use Rattle.records.specs.Facts.{RecordFacts};
-ghost use Rattle.records.specs.Kinds.{rowOf, knows, between, Parts, noParts, withPoint, withRadius, withCourse, pointOf, pointRule, radiusRule, courseRule, optionalRule, valueRule, knownRule, unknownRule, judge};
+ghost use Rattle.records.specs.Kinds.{rowOf, knows, Parts, noParts, withPoint, withRadius, withCourse, pointIn, pointRule, radiusRule, courseRule, optionalRule, valueRule, knownRule, unknownRule, judge};
+
+// The newest version of the format (specs/Versions).
+pub const NEWEST: u32 = 3;
 
 // The first three bytes of a file, "WPL".
 pub const MARK: [u8; 3] = [0x57, 0x50, 0x4C];
 
 // Where the numbers of the header stand.
-pub const VERSION: usize = 3;
+pub const VERSION_OFFSET: usize = 3;
 
-pub const SERIAL: usize = 5;
+pub const SERIAL_OFFSET: usize = 5;
 
-pub const AREA: usize = 9;
+pub const AREA_OFFSET: usize = 9;
 
 // The bytes before the first record.
-pub const HEADER: usize = 11;
+pub const HEADER_LENGTH: usize = 11;
 
 // The bytes before a record's body: its kind and its length.
-pub const HEAD: usize = 2;
+pub const HEAD_LENGTH: usize = 2;
 
 // Where the numbers of a point stand in its body.
-const NORTH: usize = 0;
+pub const NORTH_OFFSET: usize = 0;
 
-const EAST: usize = 4;
+pub const EAST_OFFSET: usize = 4;
 
-const DOWN: usize = 8;
-
-// How many values one byte has, and two.
-const ONE_BYTE: u16 = 256;
-
-const TWO_BYTES: u32 = 65536;
+pub const DOWN_OFFSET: usize = 8;
 
 // The least kind that is optional to a reader that lacks it.
 const OPTIONAL: u8 = 128;
@@ -61,35 +61,35 @@ pub struct Kind {
 }
 
 // The rows. Whoever asks for a kind's number, first version or length asks its row.
-pub const POINT: Kind = Kind {
+pub const POINT_ROW: Kind = Kind {
     kind: 1,
     since: 1,
     low: 12,
     high: 12,
 };
 
-pub const RADIUS: Kind = Kind {
+pub const RADIUS_ROW: Kind = Kind {
     kind: 2,
     since: 2,
     low: 2,
     high: 2,
 };
 
-pub const COURSE: Kind = Kind {
+pub const COURSE_ROW: Kind = Kind {
     kind: 3,
     since: 3,
     low: 2,
     high: 2,
 };
 
-pub const NOTE: Kind = Kind {
+pub const NOTE_ROW: Kind = Kind {
     kind: 128,
     since: 2,
     low: 1,
     high: 32,
 };
 
-pub const SPEED: Kind = Kind {
+pub const SPEED_ROW: Kind = Kind {
     kind: 129,
     since: 3,
     low: 2,
@@ -99,7 +99,7 @@ pub const SPEED: Kind = Kind {
 const KINDS: usize = 5;
 
 // Document 01's table. Reader versions consult it, and nothing else says which kinds there are.
-const TABLE: [Kind; KINDS] = [POINT, RADIUS, COURSE, NOTE, SPEED];
+const TABLE: [Kind; KINDS] = [POINT_ROW, RADIUS_ROW, COURSE_ROW, NOTE_ROW, SPEED_ROW];
 
 // What a record does to what was gathered before it.
 enum Effect {
@@ -196,23 +196,13 @@ fn i32_at(s: &[u8], i: usize) -> i32
     integers::signed(u32_at(s, i))
 }
 
-// Whether low <= x <= high.
-fn between(low: usize, high: usize, x: usize) -> bool
-    ensures { λ r. ⌜ r ≡ between low high x ⌝ }
-{
-    if low <= x {
-        return x <= high;
-    }
-    false
-}
-
 // The point of a body.
-fn point_of(body: &[u8]) -> Point
-    ensures { λ r. ⌜ r ≡ pointOf (now (body .entry)) ⌝ }
+fn point_in(body: &[u8]) -> Point
+    ensures { λ r. ⌜ r ≡ pointIn (now (body .entry)) ⌝ }
 {
-    let north = i32_at(body, NORTH);
-    let east = i32_at(body, EAST);
-    let down = i32_at(body, DOWN);
+    let north = i32_at(body, NORTH_OFFSET);
+    let east = i32_at(body, EAST_OFFSET);
+    let down = i32_at(body, DOWN_OFFSET);
     Point { north, east, down }
 }
 
@@ -221,7 +211,7 @@ fn radius_rule(body: &[u8], before: Tally) -> Effect
     ensures { λ x. ⌜ ((a : Parts) → before ≡ tallyOf a → verdictOf a x ≡ radiusRule (now (body .entry)) a) ⌝ }
 {
     let radius = u16_at(body, 0);
-    if between(LEAST_RADIUS as usize, MOST_RADIUS as usize, radius as usize) {
+    if conditions::between(LEAST_RADIUS as usize, MOST_RADIUS as usize, radius as usize) {
         if before.radius == 0 {
             if before.count == 0 {
                 return Effect::SetRadius(radius);
@@ -236,7 +226,7 @@ fn course_rule(body: &[u8], before: Tally) -> Effect
     ensures { λ x. ⌜ ((a : Parts) → before ≡ tallyOf a → verdictOf a x ≡ courseRule (now (body .entry)) a) ⌝ }
 {
     let course = u16_at(body, 0);
-    if course < COURSES {
+    if course < FULL_CIRCLE {
         if before.follows {
             return Effect::AddCourse(course);
         }
@@ -248,8 +238,8 @@ fn course_rule(body: &[u8], before: Tally) -> Effect
 fn optional_rule(kind: u8, body: &[u8]) -> Effect
     ensures { λ x. ⌜ ((a : Parts) → verdictOf a x ≡ optionalRule kind (now (body .entry)) a) ⌝ }
 {
-    if kind == SPEED.kind {
-        if !between(LEAST_SPEED, MOST_SPEED, u16_at(body, 0) as usize) {
+    if kind == SPEED_ROW.kind {
+        if !conditions::between(LEAST_SPEED, MOST_SPEED, u16_at(body, 0) as usize) {
             return Effect::Wrong;
         }
     }
@@ -260,7 +250,7 @@ fn optional_rule(kind: u8, body: &[u8]) -> Effect
 fn point_rule(body: &[u8]) -> Effect
     ensures { λ x. ⌜ ((a : Parts) → verdictOf a x ≡ pointRule (now (body .entry)) a) ⌝ }
 {
-    let point = point_of(body);
+    let point = point_in(body);
     if plan::in_area(point) {
         return Effect::AddPoint(point);
     }
@@ -274,10 +264,10 @@ fn value_rule(kind: u8, body: &[u8], before: Tally) -> Effect
     if OPTIONAL <= kind {
         return optional_rule(kind, body);
     }
-    if kind == POINT.kind {
+    if kind == POINT_ROW.kind {
         return point_rule(body);
     }
-    if kind == RADIUS.kind {
+    if kind == RADIUS_ROW.kind {
         return radius_rule(body, before);
     }
     course_rule(body, before)
@@ -289,7 +279,7 @@ fn known_rule(row: Kind, version: u16, kind: u8, body: &[u8], before: Tally) -> 
     ensures { λ x. ⌜ ((a : Parts) → before ≡ tallyOf a → verdictOf a x ≡ knownRule version kind (now (body .entry)) a) ⌝ }
 {
     if row.since <= version {
-        if between(row.low, row.high, body.len()) {
+        if conditions::between(row.low, row.high, body.len()) {
             return value_rule(kind, body, before);
         }
     }
@@ -336,10 +326,10 @@ fn nothing_tallied() -> Tally
 fn one_more(n: usize) -> usize
     ensures { λ r. ⌜ r ≡ counted (n + 1) ⌝ }
 {
-    if n < POINTS {
+    if n < MOST_POINTS {
         return n + 1;
     }
-    POINTS + 1
+    MOST_POINTS + 1
 }
 
 // One point more, after which a course may follow.
@@ -379,7 +369,7 @@ pub fn end_at(file: &[u8], at: usize) -> usize
     if file.len() <= at {
         return 0;
     }
-    let from = at + HEAD;
+    let from = at + HEAD_LENGTH;
     if file.len() < from {
         return 0;
     }
@@ -398,7 +388,7 @@ fn effect_at(file: &[u8], reader: u32, version: u16, at: usize, to: usize, befor
     if to == 0 {
         return Effect::Wrong;
     }
-    let from = at + HEAD;
+    let from = at + HEAD_LENGTH;
     effect_of(reader, version, file[at], &file[from..to], before)
 }
 
@@ -407,7 +397,7 @@ fn put_number(number: i32, block: usize, i: usize, numbers: &mut [i32])
     requires { ⌜ (block < 4) × ((i < mostPoints) × (length (now numbers) ≡ planNumbers)) ⌝ }
     ensures { λ _. ⌜ now (numbers .exit) ≡ set (now (numbers .entry)) (block * mostPoints + i) number ⌝ }
 {
-    numbers[block * POINTS + i] = number;
+    numbers[block * MOST_POINTS + i] = number;
 }
 
 // A point behind those that were counted. One past a plan's places is not stored.
@@ -415,7 +405,7 @@ fn put_point(point: Point, count: usize, numbers: &mut [i32])
     requires { ⌜ length (now numbers) ≡ planNumbers ⌝ }
     ensures { λ _. ⌜ ((a : Parts) → now (numbers .entry) ≡ numbersIn a → count ≡ counted (length (a .points)) → now (numbers .exit) ≡ numbersIn (withPoint a point)) ⌝ }
 {
-    if count < POINTS {
+    if count < MOST_POINTS {
         put_number(point.north, plan::NORTH_BLOCK, count, numbers);
         put_number(point.east, plan::EAST_BLOCK, count, numbers);
         put_number(point.down, plan::DOWN_BLOCK, count, numbers);
@@ -427,7 +417,7 @@ fn put_course(course: u16, given: usize, numbers: &mut [i32])
     requires { ⌜ length (now numbers) ≡ planNumbers ⌝ }
     ensures { λ _. ⌜ ((a : Parts) → now (numbers .entry) ≡ numbersIn a → given ≡ counted (length (a .courses)) → now (numbers .exit) ≡ numbersIn (withCourse a course)) ⌝ }
 {
-    if given < POINTS {
+    if given < MOST_POINTS {
         put_number(course as i32, plan::COURSE_BLOCK, given, numbers);
     }
 }
@@ -453,7 +443,7 @@ pub fn gather(file: &[u8], reader: u32, version: u16, numbers: &mut [i32]) -> Ga
     ensures { λ _. ⌜ ((a : Parts) → gatherFrom reader version (now (file .entry)) headerLength noParts ≡ good a → now (numbers .exit) ≡ numbersIn a) ⌝ }
     ensures { λ _. ⌜ RecordFacts ⌝ }
 {
-    let mut at: usize = HEADER;
+    let mut at: usize = HEADER_LENGTH;
     let mut tally = nothing_tallied();
     while at < file.len() {
         let to = end_at(file, at);

@@ -5,15 +5,15 @@ use Prim.Native.Nat.{ℕ, zero, suc, _+_, _≤_, _<_}
 use native.Mathlib.Omega.{arith}
 use lib.Dec.{eqb}
 use borrow.Author.Tests.{eqb-true, eqb-false, eq-eqb, ne-eqb}
-use Rattle.integers.proofs.ChooseLaws.{choose-true, choose-false}
+use Rattle.conditions.proofs.ChooseLaws.{choose-true, choose-false}
+use Rattle.conditions.proofs.Bools.{by-bool}
 use Rattle.refusals.specs.Outcome.{good, refused, check, andThen, refusalOf, isGood}
 use Rattle.refusals.specs.Sweep.{done, sweep}
-use Rattle.refusals.specs.Order.{Chain, Lowest, Order}
+use Rattle.refusals.specs.Order.{CheckChain, Lowest, Order}
 use Rattle.refusals.proofs.Anchors.{literals}
-use Rattle.refusals.proofs.Bools.{by-bool}
 use Rattle.refusals.proofs.SweepLaws.{every-means, every-of}
 
-chain : Chain
+chain : CheckChain
 unfolding check andThen refusalOf isGood
 chain =
     record {

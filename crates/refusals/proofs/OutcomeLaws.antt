@@ -4,9 +4,9 @@ use mathlib.Core.Bool.{Bool, true, false}
 use Prim.Native.Nat.{ℕ}
 use native.Mathlib.Omega.{arith}
 use lib.Dec.{eqb}
-use Rattle.integers.specs.Choose.{choose}
+use Rattle.conditions.specs.Choose.{choose}
+use Rattle.conditions.proofs.Bools.{clash}
 use Rattle.refusals.specs.Outcome.{Outcome, good, refused, check, andThen, refusalOf, isGood}
-use Rattle.refusals.proofs.Bools.{clash}
 
 -- ---- a check
 pub check-true : {A : Type 0} (b : Bool) (n : ℕ) (o : Outcome A) → b ≡ true → check b n o ≡ o

@@ -5,11 +5,12 @@ use Prim.Native.Nat.{ℕ, zero, suc, _+_, _-_, _≤_, _<_}
 use native.Mathlib.Omega.{arith}
 use lib.Dec.{eqb, ltb}
 use borrow.Author.Tests.{eqb-true, eqb-false, ne-eqb, lt-ltb, le-ltb}
-use Rattle.integers.specs.Choose.{choose}
-use Rattle.integers.proofs.ChooseLaws.{choose-true, choose-false}
+use Rattle.conditions.specs.Choose.{choose}
+use Rattle.conditions.specs.Both.{both}
+use Rattle.conditions.proofs.ChooseLaws.{choose-true, choose-false}
+use Rattle.conditions.proofs.Bools.{by-bool, clash, both-on, both-off, both-off-second, both-last, both-first, both-second, both-swap, both-both}
 use Rattle.refusals.specs.Outcome.{Outcome, good, refused, andThen, refusalOf, isGood}
-use Rattle.refusals.specs.Sweep.{Done, done, sweep, both, every}
-use Rattle.refusals.proofs.Bools.{by-bool, clash, both-on, both-off, both-off-second, both-last, both-first, both-second, both-swap, both-both}
+use Rattle.refusals.specs.Sweep.{Done, done, sweep, every}
 use Rattle.refusals.proofs.OutcomeLaws.{Proper, then-refusal}
 
 -- ---- from place i up to n

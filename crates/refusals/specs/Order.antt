@@ -19,7 +19,7 @@ abbrev pub refusal : ℕ → ℕ → Refusal
 refusal number place = record { number = number; place = place }
 
 -- a test that passes goes on, one that fails is the refusal; so is the first refusal of a chain
-pub record Chain : Type 0 where
+pub record CheckChain : Type 0 where
   pub passes : (n : ℕ) (o : Outcome Done) → check true n o ≡ o
   pub fails : (n : ℕ) (o : Outcome Done) → check false n o ≡ refused n 0
   pub onward : (f : Done → Outcome Done) → andThen (good done) f ≡ f done
@@ -42,5 +42,5 @@ pub record Literals : Type 0 where
 
 pub record Order : Type 0 where
   pub literals : Literals
-  pub chain : Chain
+  pub chain : CheckChain
   pub lowest : (k i : ℕ) → Lowest k i

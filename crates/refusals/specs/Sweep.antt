@@ -1,8 +1,9 @@
 -- Sweeps over places, from i on, k of them. "The lowest place comes first." Assumes nothing.
-use mathlib.Core.Bool.{Bool, true, false}
+use mathlib.Core.Bool.{Bool, true}
 use Prim.Native.Nat.{ℕ, zero, suc, _+_}
 use lib.Dec.{eqb}
-use Rattle.integers.specs.Choose.{choose}
+use Rattle.conditions.specs.Choose.{choose}
+use Rattle.conditions.specs.Both.{both}
 use Rattle.refusals.specs.Outcome.{Outcome, good, refused}
 
 -- what a chain hands on that has no value
@@ -13,11 +14,6 @@ pub data Done : Type 0 where
 unfoldable pub sweep : (ℕ → ℕ) → ℕ → ℕ → Outcome Done
 sweep number zero i = good done
 sweep number (suc k) i = choose (eqb (number i) 0) (sweep number k (i + 1)) (refused (number i) (i + 1))
-
--- both tests pass. It stays shut where it is cited, so that the tests of a chain can be taken one by one.
-unfoldable pub both : Bool → Bool → Bool
-both true b = b
-both false b = false
 
 -- whether a test passes at each place
 unfoldable pub every : (ℕ → Bool) → ℕ → ℕ → Bool

@@ -8,13 +8,13 @@ use lib.Dec.{eqb}
 use lib.Ieee.{Float, nan}
 use lib.ListN.{length, getD}
 use borrow.Author.Tests.{eq-eqb, ne-eqb}
-use Rattle.integers.proofs.ChooseLaws.{choose-true, choose-false}
+use Rattle.conditions.proofs.ChooseLaws.{choose-true, choose-false}
 use Rattle.text.specs.Ascii.{ascii}
 use Rattle.text.specs.Parts.{countText, floatText, refusalText}
 use Rattle.text.specs.Written.{Wrote}
 use Rattle.text.proofs.WrittenLaws.{none, then}
 use Rattle.report.specs.Listing.{space}
-use Rattle.report.specs.Fix.{floatsTo, senseText, commandText, wordAt, guidedText}
+use Rattle.report.specs.Fix.{floatsTo, senseText, commandText, answerWord, guidedText}
 
 -- ---- float by float
 floats-next : (xs : List Float) (i : ℕ) → floatsTo xs (i + 1) ≡ floatsTo xs i ++ (space ++ floatText (getD xs i nan))
@@ -73,10 +73,10 @@ module _ (kind sense : ℕ) (xs : List Float) where
   is-nothing h k = choose-false _ _ _ (ne-eqb kind 1 h) ∙ choose-false _ _ _ (ne-eqb kind 2 k)
 
 module _ (a : List ℕ) (xs : List Float) where
-  pub guided : wordAt a 0 ≡ 0 → guidedText a xs ≡ commandText (wordAt a 2) (wordAt a 3) xs ++ countText (ascii " heading ") (wordAt a 4)
+  pub guided : answerWord a 0 ≡ 0 → guidedText a xs ≡ commandText (answerWord a 2) (answerWord a 3) xs ++ countText (ascii " heading ") (answerWord a 4)
   unfolding guidedText
-  guided h = choose-true _ _ _ (eq-eqb (wordAt a 0) 0 h)
+  guided h = choose-true _ _ _ (eq-eqb (answerWord a 0) 0 h)
 
-  pub not-guided : (wordAt a 0 ≡ 0 → ⊥) → guidedText a xs ≡ space ++ refusalText (wordAt a 0) (wordAt a 1)
+  pub not-guided : (answerWord a 0 ≡ 0 → ⊥) → guidedText a xs ≡ space ++ refusalText (answerWord a 0) (answerWord a 1)
   unfolding guidedText
-  not-guided h = choose-false _ _ _ (ne-eqb (wordAt a 0) 0 h)
+  not-guided h = choose-false _ _ _ (ne-eqb (answerWord a 0) 0 h)

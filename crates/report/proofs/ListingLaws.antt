@@ -6,7 +6,7 @@ use native.Mathlib.Numerals.{add-one}
 use native.Mathlib.Omega.{arith}
 use lib.ListN.{length}
 use borrow.Author.Tests.{le-leb, lt-leb, eq-eqb, ne-eqb}
-use Rattle.integers.proofs.ChooseLaws.{choose-true, choose-false}
+use Rattle.conditions.proofs.ChooseLaws.{choose-true, choose-false}
 use Rattle.refusals.specs.Outcome.{Outcome, good, refused}
 use Rattle.buffers.specs.Splice.{over}
 use Rattle.buffers.proofs.SpliceLaws.{at-front}
@@ -16,7 +16,7 @@ use Rattle.text.proofs.WrittenLaws.{none, then}
 use Rattle.plane.specs.declared.Point.{Point}
 use Rattle.plan.specs.declared.Plan.{Plan}
 use Rattle.plan.specs.Limits.{mostPoints}
-use Rattle.plan.specs.Places.{pointOf, courseOf}
+use Rattle.plan.specs.Places.{planPoint, planCourse}
 use Rattle.manager.specs.declared.State.{State}
 use Rattle.manager.proofs.StateLaws.{valid-means}
 use Rattle.wpl.specs.declared.Loaded.{Loaded}
@@ -27,7 +27,7 @@ use Rattle.report.specs.Listing.{newline, lineOf, linesTo, planText, loa
 use Rattle.report.proofs.HoldsLaws.{listing-holds}
 
 -- ---- line by line
-lines-next : (p : Plan) (i : ℕ) → linesTo p (i + 1) ≡ linesTo p i ++ lineOf (p .head .mode) (i + 1) (pointOf p i) (courseOf p i)
+lines-next : (p : Plan) (i : ℕ) → linesTo p (i + 1) ≡ linesTo p i ++ lineOf (p .head .mode) (i + 1) (planPoint p i) (planCourse p i)
 unfolding linesTo
 lines-next p i = rw add-one
 
@@ -48,10 +48,10 @@ module _ (p : Plan) (from : ℕ) (old : List ℕ) (room : from + 108 * p .head .
     fits h = omega (arith, u .kept, u .short)
 
     pub goes-on : (new : List ℕ) (to : ℕ) → i < p .head .count → length new ≡ length now
-        → {q : Point} {course : ℕ} → q ≡ pointOf p i → course ≡ courseOf p i
+        → {q : Point} {course : ℕ} → q ≡ planPoint p i → course ≡ planCourse p i
         → Wrote at (lineOf (p .head .mode) (i + 1) q course) now new to × (to ≤ at + 108) → Underway p from old new to (i + 1)
     goes-on new to h k {q} {course} e f w =
-        let v : Wrote at (lineOf (p .head .mode) (i + 1) (pointOf p i) (courseOf p i)) now new to = rw (← e, ← f) (w .0) in
+        let v : Wrote at (lineOf (p .head .mode) (i + 1) (planPoint p i) (planCourse p i)) now new to = rw (← e, ← f) (w .0) in
         record {
           inside = omega arith;
           kept = k ∙ u .kept;

@@ -5,7 +5,7 @@ use Prim.Native.Nat.{ℕ, zero, suc}
 use lib.Dec.{eqb}
 use lib.ListN.{getD}
 use lib.Ieee.{Float, nan}
-use Rattle.integers.specs.Choose.{choose}
+use Rattle.conditions.specs.Choose.{choose}
 use Rattle.text.specs.Ascii.{ascii}
 use Rattle.text.specs.Parts.{countText, floatText, refusalText}
 use Rattle.report.specs.Listing.{newline, space}
@@ -25,19 +25,19 @@ commandText kind sense numbers =
     choose (eqb kind 1) (ascii " line" ++ floatsTo numbers 6)
     (choose (eqb kind 2) (ascii " circle" ++ (floatsTo numbers 4 ++ senseText sense)) (ascii " nothing"))
 
-abbrev pub wordAt : List ℕ → ℕ → ℕ
-wordAt answer i = getD answer i 0
+abbrev pub answerWord : List ℕ → ℕ → ℕ
+answerWord answer i = getD answer i 0
 
 unfoldable pub guidedText : List ℕ → List Float → List ℕ
 guidedText answer numbers =
-    choose (eqb (wordAt answer 0) 0)
-    (commandText (wordAt answer 2) (wordAt answer 3) numbers ++ countText (ascii " heading ") (wordAt answer 4))
-    (space ++ refusalText (wordAt answer 0) (wordAt answer 1))
+    choose (eqb (answerWord answer 0) 0)
+    (commandText (answerWord answer 2) (answerWord answer 3) numbers ++ countText (ascii " heading ") (answerWord answer 4))
+    (space ++ refusalText (answerWord answer 0) (answerWord answer 1))
 
 unfoldable pub progressText : List ℕ → List ℕ
 progressText answer =
-    countText (ascii " index ") (wordAt answer 5)
-    ++ (countText (ascii " phase ") (wordAt answer 6) ++ (countText (ascii " finished ") (wordAt answer 7) ++ newline))
+    countText (ascii " index ") (answerWord answer 5)
+    ++ (countText (ascii " phase ") (answerWord answer 6) ++ (countText (ascii " finished ") (answerWord answer 7) ++ newline))
 
 unfoldable pub fixText : ℕ → List ℕ → List Float → List ℕ
 fixText number answer numbers = countText (ascii "fix ") number ++ (guidedText answer numbers ++ progressText answer)

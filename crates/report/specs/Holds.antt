@@ -22,8 +22,8 @@ exampleFile =
     ∷ 0x01 ∷ 0x0C ∷ 0x00 ∷ 0x00 ∷ 0x03 ∷ 0xE8 ∷ 0x00 ∷ 0x00 ∷ 0x07 ∷ 0xD0 ∷ 0xFF ∷ 0xFF ∷ 0xFC ∷ 0x18 ∷ []
 
 -- a header, and a record of which there is no more than its kind
-abbrev pub cutFile : List ℕ
-cutFile = 0x57 ∷ 0x50 ∷ 0x4C ∷ 0x00 ∷ 0x01 ∷ 0x00 ∷ 0x00 ∷ 0x00 ∷ 0x07 ∷ 0x00 ∷ 0x01 ∷ 0x01 ∷ []
+abbrev pub shortFile : List ℕ
+shortFile = 0x57 ∷ 0x50 ∷ 0x4C ∷ 0x00 ∷ 0x01 ∷ 0x00 ∷ 0x00 ∷ 0x00 ∷ 0x07 ∷ 0x00 ∷ 0x01 ∷ 0x01 ∷ []
 
 abbrev pub somePoints : List Point
 somePoints =
@@ -41,13 +41,13 @@ pub record ListingHolds : Type 0 where
   pub example : listingOf exampleFile
       ≡ ascii "plan 7 version 1 mode lines points 3\n1 0 0 -1000 -\n2 1000 0 -1000 -\n3 1000 2000 -1000 -\n"
   -- "A refusal prints one line, `refused 6 at 11`."
-  pub refusal : listingOf cutFile ≡ ascii "refused 6 at 11\n"
+  pub refusal : listingOf shortFile ≡ ascii "refused 6 at 11\n"
   pub fillets : planText 2 (planOf 8 200 somePoints []) ≡ ascii "plan 8 version 2 mode fillets points 3\n1 0 0 -1000 -\n2 1000 20 3 -\n3 -5 2000 0 -\n"
   pub dubins : planText 3 (planOf 9 100 somePoints (1024 ∷ 0 ∷ 4095 ∷ []))
       ≡ ascii "plan 9 version 3 mode dubins points 3\n1 0 0 -1000 1024\n2 1000 20 3 0\n3 -5 2000 0 4095\n"
 
 -- as an answer has it: refusal, place, kind, sense, heading, index, phase, finished
-pub record FixHolds : Type 0 where
+pub record FixLineHolds : Type 0 where
   pub line : fixText 3 (0 ∷ 0 ∷ 1 ∷ 0 ∷ 3712 ∷ 2 ∷ 1 ∷ 0 ∷ []) sixNumbers
       ≡ ascii "fix 3 line 3fc00000 00000000 c2c80000 3fc00000 00000000 bf800000 heading 3712 index 2 phase 1 finished 0\n"
   pub circle : fixText 12 (0 ∷ 0 ∷ 2 ∷ 1 ∷ 159 ∷ 4 ∷ 5 ∷ 1 ∷ []) sixNumbers

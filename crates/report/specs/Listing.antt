@@ -4,7 +4,7 @@ use mathlib.Core.List.{List, [], _++_}
 use Prim.Native.Nat.{ℕ, zero, suc}
 use lib.Dec.{eqb, leb}
 use lib.ListN.{length}
-use Rattle.integers.specs.Choose.{choose}
+use Rattle.conditions.specs.Choose.{choose}
 use Rattle.buffers.specs.Splice.{over}
 use Rattle.text.specs.Ascii.{ascii}
 use Rattle.text.specs.Digits.{decimalOf}
@@ -14,8 +14,8 @@ use Rattle.plan.specs.declared.Mode.{Mode}
 use Rattle.plan.specs.declared.Mode.the-variants.{Lines, Fillets, Dubins}
 use Rattle.plan.specs.declared.Head.{Head}
 use Rattle.plan.specs.declared.Plan.{Plan}
-use Rattle.plan.specs.Places.{pointOf, courseOf}
-use Rattle.records.specs.Kinds.{newest}
+use Rattle.plan.specs.Places.{planPoint, planCourse}
+use Rattle.records.specs.Versions.{newest}
 use Rattle.wpl.specs.declared.Loaded.{Loaded}
 use Rattle.wpl.specs.Header.{versionOf}
 use Rattle.wpl.specs.Load.{loadOf, loadedOf}
@@ -51,7 +51,7 @@ lineOf mode number p course = decimalOf number ++ (pointText p ++ (courseText mo
 -- the lines of the first points
 unfoldable pub linesTo : Plan → ℕ → List ℕ
 linesTo p zero = []
-linesTo p (suc i) = linesTo p i ++ lineOf (p .head .mode) (suc i) (pointOf p i) (courseOf p i)
+linesTo p (suc i) = linesTo p i ++ lineOf (p .head .mode) (suc i) (planPoint p i) (planCourse p i)
 
 unfoldable pub planText : ℕ → Plan → List ℕ
 planText version p = titleOf version (p .head) ++ linesTo p (p .head .count)

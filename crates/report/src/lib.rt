@@ -1,5 +1,7 @@
 // What programs print, as text in a lent buffer: the listing of a plan file (document 01, "Checked examples"), the line of a fix, and the lines
 // of a load, a note and a write.
+use c_answer::CIRCLE_KIND;
+use c_answer::LINE_KIND;
 use plan::Head;
 use plan::Mode;
 use plan::Plan;
@@ -15,11 +17,11 @@ ghost use Rattle.plan.specs.Limits.{mostPoints};
 ghost use Rattle.plan.specs.Places.{courseAt};
 ghost use Rattle.report.specs.Answers.{loadText, noteText, writtenText};
 ghost use Rattle.report.specs.Fix.{floatsTo, senseText, commandText, guidedText, progressText, fixText};
-ghost use Rattle.report.specs.Holds.{ListingHolds, FixHolds, AnswersHold};
+ghost use Rattle.report.specs.Holds.{ListingHolds, FixLineHolds, AnswersHold};
 ghost use Rattle.report.specs.Listing.{space, modeText, titleOf, courseText, pointText, lineOf, linesTo, planText, listingOf, listingRoom, listedIn, listedLength};
 
 // Room for every listing.
-pub const ROOM: usize = 7008;
+pub const LISTING_ROOM: usize = 7008;
 
 // Room for the line of a fix.
 pub const FIX_ROOM: usize = 197;
@@ -41,11 +43,7 @@ const PHASE: usize = 6;
 
 const FINISHED: usize = 7;
 
-// The kinds of command, and how many numbers each has.
-const LINE: u32 = 1;
-
-const CIRCLE: u32 = 2;
-
+// How many numbers a line and a circle have.
 const LINE_NUMBERS: usize = 6;
 
 const CIRCLE_NUMBERS: usize = 4;
@@ -161,21 +159,21 @@ fn put_plan(version: u16, plan: Plan, buffer: &mut [u8]) -> usize
     put_lines(plan, lines, buffer)
 }
 
-// The listing of a file as the newest reader loads it, and its length. In a buffer of fewer than ROOM bytes nothing is written, and the length is 0.
+// The listing of a file as the newest reader loads it, and its length. In a buffer of fewer than LISTING_ROOM bytes nothing is written, and the length is 0.
 pub fn listing(file: &[u8], buffer: &mut [u8]) -> usize
     ensures { λ r. ⌜ r ≡ listedLength (listingOf (now (file .entry))) (now (buffer .entry)) ⌝ }
     ensures { λ _. ⌜ now (buffer .exit) ≡ listedIn (listingOf (now (file .entry))) (now (buffer .entry)) ⌝ }
     ensures { λ r. ⌜ r ≤ length (now (buffer .entry)) ⌝ }
     ensures { λ _. ⌜ ListingHolds ⌝ }
 {
-    if buffer.len() < ROOM {
+    if buffer.len() < LISTING_ROOM {
         return 0;
     }
-    let loaded = wpl::load(file, wpl::NEWEST);
+    let loaded = wpl::load(file, records::NEWEST);
     if loaded.refusal == 0 {
         let state = loaded.state;
         let plan = state.plan;
-        return put_plan(records::u16_at(file, records::VERSION), plan, buffer);
+        return put_plan(records::u16_at(file, records::VERSION_OFFSET), plan, buffer);
     }
     let end = text::put_refusal(loaded.refusal as u64, loaded.place as u64, 0, buffer);
     text::put_byte(b'\n', end, buffer)
@@ -211,11 +209,11 @@ fn put_command(kind: u32, sense: u32, numbers: &[f32], at: usize, buffer: &mut [
     requires { ⌜ (6 ≤ length (now numbers)) × (at + 59 ≤ length (now buffer)) ⌝ }
     ensures { λ r. ⌜ Wrote at (commandText kind sense (now (numbers .entry))) (now (buffer .entry)) (now (buffer .exit)) r × (r ≤ at + 59) ⌝ }
 {
-    if kind == LINE {
+    if kind == LINE_KIND {
         let a = text::put_text(b" line", at, buffer);
         return put_floats(numbers, LINE_NUMBERS, a, buffer);
     }
-    if kind == CIRCLE {
+    if kind == CIRCLE_KIND {
         let a = text::put_text(b" circle", at, buffer);
         let b = put_floats(numbers, CIRCLE_NUMBERS, a, buffer);
         return put_sense(sense, b, buffer);
@@ -265,7 +263,7 @@ fn put_progress(answer: &[u32], at: usize, buffer: &mut [u8]) -> usize
 pub fn put_fix(number: u64, answer: &[u32], numbers: &[f32], at: usize, buffer: &mut [u8]) -> usize
     requires { ⌜ (8 ≤ length (now answer)) × ((6 ≤ length (now numbers)) × (at + 197 ≤ length (now buffer))) ⌝ }
     ensures { λ r. ⌜ Wrote at (fixText number (now (answer .entry)) (now (numbers .entry))) (now (buffer .entry)) (now (buffer .exit)) r × (r ≤ at + 197) ⌝ }
-    ensures { λ _. ⌜ FixHolds ⌝ }
+    ensures { λ _. ⌜ FixLineHolds ⌝ }
 {
     let a = text::put_count(b"fix ", number, at, buffer);
     let b = put_guided(answer, numbers, a, buffer);

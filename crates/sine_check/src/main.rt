@@ -1,7 +1,7 @@
 // Compares the course table with sines worked out another way: not by a series, but by turning a vector by one unit 1,024 times.
 
 // Room for the one line.
-const LINE: usize = 64;
+const LINE_ROOM: usize = 64;
 
 // The cosine and the sine of a course, of a circle of radius 1.
 struct Turn {
@@ -44,7 +44,7 @@ fn agreeing() -> u64 {
 }
 
 fn main() {
-    let mut line = [0u8; LINE];
+    let mut line = [0u8; LINE_ROOM];
     let count = text::put_decimal(agreeing(), 0, &mut line);
     let end = text::put_text(b" of 1025 entries agree\n", count, &mut line);
     console::write(&line, end);

@@ -9,9 +9,9 @@ use lib.Signed.{_≤ℤ_, _<ℤ_}
 use lib.IntN.{ℤ, pos, negsuc, natAbs}
 use lib.ListN.{length, length-append}
 use borrow.Author.Tests.{lt-ltb, le-ltb}
-use Rattle.integers.specs.Choose.{choose}
-use Rattle.integers.proofs.ChooseLaws.{choose-true, choose-false}
-use Rattle.text.specs.Digits.{digitsIn, decimalOf, signedOf, hexDigit, hexOf}
+use Rattle.conditions.specs.Choose.{choose}
+use Rattle.conditions.proofs.ChooseLaws.{choose-true, choose-false}
+use Rattle.text.specs.Digits.{digitsIn, decimalOf, signedText, hexDigit, hexOf}
 
 pub lt-or-ge : (m n : ℕ) → (m < n) ⊎ (n ≤ m)
 lt-or-ge m zero = inr (omega arith)
@@ -56,13 +56,13 @@ decimal-length (suc k) n h =
     (lt-or-ge n 10)
 
 -- ---- a sign, or none
-pub signed-negative : (z : ℤ) → z <ℤ pos 0 → signedOf z ≡ 45 ∷ decimalOf (natAbs z)
-unfolding signedOf
+pub signed-negative : (z : ℤ) → z <ℤ pos 0 → signedText z ≡ 45 ∷ decimalOf (natAbs z)
+unfolding signedText
 signed-negative (pos n) h = absurd (omega (arith, ltb→lt n 0 (h .lt)))
 signed-negative (negsuc n) h = refl
 
-pub signed-else : (z : ℤ) → pos 0 ≤ℤ z → signedOf z ≡ decimalOf (natAbs z)
-unfolding signedOf
+pub signed-else : (z : ℤ) → pos 0 ≤ℤ z → signedText z ≡ decimalOf (natAbs z)
+unfolding signedText
 signed-else (pos n) h = refl
 signed-else (negsuc n) h = absurd (h .le)
 

@@ -1,8 +1,8 @@
 -- The definitions of text are held: see specs/Holds. Assumes nothing.
 use mathlib.Core.Path.{refl}
-use Rattle.integers.specs.Choose.{choose}
+use Rattle.conditions.specs.Choose.{choose}
 use lib.Ieee.{ofBits, toBits}
-use Rattle.text.specs.Digits.{digitsIn, decimalOf, signedOf, hexDigit, hexOf}
+use Rattle.text.specs.Digits.{digitsIn, decimalOf, signedText, hexDigit, hexOf}
 use Rattle.text.specs.Parts.{countText, bytesTo, bytesText, floatText, refusalText}
 use Rattle.text.specs.Holds.{DecimalHolds, SignedHolds, HexHolds, BytesHold, FloatHolds, RefusalHolds}
 use Rattle.text.proofs.DigitLaws.{hex-length}
@@ -13,7 +13,7 @@ unfolding decimalOf digitsIn choose
 decimal-holds = record { is = decimal-is; only = decimal-only; nought = refl; most = refl }
 
 pub signed-holds : SignedHolds
-unfolding signedOf decimalOf digitsIn choose
+unfolding signedText decimalOf digitsIn choose
 signed-holds = record { reads = signed-reads; minus = refl }
 
 pub hex-holds : HexHolds

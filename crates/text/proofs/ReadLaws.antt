@@ -8,9 +8,9 @@ use lib.Dec.{ltb, eqb}
 use lib.IntN.{ℤ, pos, negsuc, negℤ}
 use lib.ListN.{length, getD, length-append}
 use borrow.Author.Tests.{lt-ltb, le-ltb, ne-eqb}
-use Rattle.integers.specs.Choose.{choose}
-use Rattle.integers.proofs.ChooseLaws.{choose-true, choose-false}
-use Rattle.text.specs.Digits.{digitsIn, decimalOf, signedOf, hexDigit, hexOf, value, signedValue, hexDigitValue, hexValue, Digit, Digits, Decimal}
+use Rattle.conditions.specs.Choose.{choose}
+use Rattle.conditions.proofs.ChooseLaws.{choose-true, choose-false}
+use Rattle.text.specs.Digits.{digitsIn, decimalOf, signedText, hexDigit, hexOf, value, signedValue, hexDigitValue, hexValue, Digit, Digits, Decimal}
 use Rattle.text.proofs.DigitLaws.{lt-or-ge, alone, behind, decimal-low, decimal-more}
 
 -- ---- one digit more at the end
@@ -84,8 +84,8 @@ unfolding Digits signedValue
 no-minus [] d h = absurd (omega arith)
 no-minus (x ∷ xs) d h = choose-false (eqb x 45) (negℤ (pos (value 0 xs))) (pos (value 0 (x ∷ xs))) (ne-eqb x 45 (λ e. omega (arith, d .0 .low)))
 
-pub signed-reads : (z : ℤ) → signedValue (signedOf z) ≡ z
-unfolding signedOf signedValue choose
+pub signed-reads : (z : ℤ) → signedValue (signedText z) ≡ z
+unfolding signedText signedValue choose
 signed-reads (pos n) = let d = decimal-is n in no-minus (decimalOf n) (d .digits) (d .some) ∙ ap pos (d .reads)
 signed-reads (negsuc n) = ap (λ (m : ℕ). negℤ (pos m)) (decimal-is (suc n) .reads)
 

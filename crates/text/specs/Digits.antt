@@ -5,7 +5,7 @@ use Prim.Native.Nat.{ℕ, zero, suc, _+_, _-_, _*_, _/_, _%_, _≤_, _<_}
 use lib.Dec.{ltb, eqb}
 use lib.IntN.{ℤ, pos, negsuc, negℤ}
 use lib.ListN.{length, getD}
-use Rattle.integers.specs.Choose.{choose}
+use Rattle.conditions.specs.Choose.{choose}
 
 -- the last digit behind those of a tenth of the number, in at most so many digits
 unfoldable pub digitsIn : ℕ → ℕ → List ℕ
@@ -17,9 +17,9 @@ unfoldable pub decimalOf : ℕ → List ℕ
 decimalOf n = digitsIn (suc n) n
 
 -- a minus sign before a negative number
-unfoldable pub signedOf : ℤ → List ℕ
-signedOf (pos n) = decimalOf n
-signedOf (negsuc n) = 45 ∷ decimalOf (suc n)
+unfoldable pub signedText : ℤ → List ℕ
+signedText (pos n) = decimalOf n
+signedText (negsuc n) = 45 ∷ decimalOf (suc n)
 
 -- 0 to 9, then a to f
 unfoldable pub hexDigit : ℕ → ℕ

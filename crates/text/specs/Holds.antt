@@ -6,7 +6,7 @@ use lib.IntN.{ℤ, negsuc}
 use lib.ListN.{length}
 use lib.Ieee.{nan, binary32, ofBits}
 use Rattle.text.specs.Ascii.{ascii}
-use Rattle.text.specs.Digits.{decimalOf, signedOf, hexOf, Decimal, signedValue, hexValue}
+use Rattle.text.specs.Digits.{decimalOf, signedText, hexOf, Decimal, signedValue, hexValue}
 use Rattle.text.specs.Parts.{bytesText, floatText, refusalText}
 
 pub record DecimalHolds : Type 0 where
@@ -16,8 +16,8 @@ pub record DecimalHolds : Type 0 where
   pub most : decimalOf 4095 ≡ ascii "4095"
 
 pub record SignedHolds : Type 0 where
-  pub reads : (z : ℤ) → signedValue (signedOf z) ≡ z
-  pub minus : signedOf (negsuc 999) ≡ ascii "-1000"
+  pub reads : (z : ℤ) → signedValue (signedText z) ≡ z
+  pub minus : signedText (negsuc 999) ≡ ascii "-1000"
 
 pub record HexHolds : Type 0 where
   pub reads : (k n : ℕ) → n < 16 ^ k → hexValue 0 (hexOf k n) ≡ n

@@ -5,13 +5,13 @@ use lib.IntN.{ℤ}
 use lib.ListN.{length, getD}
 use lib.Ieee.{Float, binary32, toBits}
 use Rattle.text.specs.Ascii.{ascii}
-use Rattle.text.specs.Digits.{decimalOf, signedOf, hexOf}
+use Rattle.text.specs.Digits.{decimalOf, signedText, hexOf}
 
 unfoldable pub countText : List ℕ → ℕ → List ℕ
 countText word n = word ++ decimalOf n
 
 unfoldable pub numberText : List ℕ → ℤ → List ℕ
-numberText word z = word ++ signedOf z
+numberText word z = word ++ signedText z
 
 -- the first bytes in hexadecimal, and all of them
 unfoldable pub bytesTo : List ℕ → ℕ → List ℕ

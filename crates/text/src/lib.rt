@@ -5,7 +5,7 @@ ghost use mathlib.Core.List.{[], _∷_};
 ghost use Prim.Native.Nat.{_+_, _*_, _≤_, _<_};
 ghost use lib.ListN.{length};
 ghost use lib.Ieee.{binary32, ofBits};
-ghost use Rattle.text.specs.Digits.{decimalOf, signedOf, hexDigit, hexOf};
+ghost use Rattle.text.specs.Digits.{decimalOf, signedText, hexDigit, hexOf};
 ghost use Rattle.text.specs.Parts.{countText, numberText, bytesText, floatText, refusalText};
 ghost use Rattle.text.specs.Written.{Wrote};
 ghost use Rattle.text.specs.Holds.{DecimalHolds, SignedHolds, HexHolds, BytesHold, FloatHolds, RefusalHolds};
@@ -55,7 +55,7 @@ pub fn put_decimal(n: u64, at: usize, buffer: &mut [u8]) -> usize
 // A minus sign before a negative number.
 pub fn put_signed(x: i64, at: usize, buffer: &mut [u8]) -> usize
     requires { ⌜ at + 21 ≤ length (now buffer) ⌝ }
-    ensures { λ r. ⌜ Wrote at (signedOf x) (now (buffer .entry)) (now (buffer .exit)) r × (r ≤ at + 21) ⌝ }
+    ensures { λ r. ⌜ Wrote at (signedText x) (now (buffer .entry)) (now (buffer .exit)) r × (r ≤ at + 21) ⌝ }
     ensures { λ _. ⌜ SignedHolds ⌝ }
 {
     let size = integers::magnitude(x);

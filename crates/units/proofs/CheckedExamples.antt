@@ -1,7 +1,7 @@
 -- The examples of a fix hold: the prover computes them. Assumes nothing.
 use mathlib.Core.Path.{refl}
 use lib.Ieee.{ofBits}
-use Rattle.integers.specs.Choose.{choose}
+use Rattle.conditions.specs.Choose.{choose}
 use Rattle.units.specs.Decimetres.{decimetresOf, inLimit}
 use Rattle.units.specs.Position.{allInLimit, positionOf}
 use Rattle.units.specs.CheckedExamples.{FixExamples}

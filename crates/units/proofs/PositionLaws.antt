@@ -3,14 +3,14 @@ use mathlib.Core.Path.{_≡_, sym, subst}
 use mathlib.Core.Bool.{Bool, true, false, _&&_}
 use lib.Dec.{T}
 use lib.Ieee.Fits.{and-l, and-r}
-use Rattle.integers.specs.Choose.{choose}
-use Rattle.integers.proofs.ChooseLaws.{choose-true, choose-false}
+use Rattle.conditions.specs.Choose.{choose}
+use Rattle.conditions.proofs.ChooseLaws.{choose-true, choose-false}
 use Rattle.plane.specs.Area.{InArea}
 use Rattle.units.specs.declared.Fix.{Fix}
 use Rattle.units.specs.declared.Position.{Position}
 use Rattle.units.specs.declared.Position.the-variants.{At, Nowhere}
 use Rattle.units.specs.Decimetres.{inLimit}
-use Rattle.units.specs.Position.{pointOf, allInLimit, positionOf, IsPosition}
+use Rattle.units.specs.Position.{inDecimetres, allInLimit, positionOf, IsPosition}
 use Rattle.units.specs.CheckedExamples.{FixExamples}
 use Rattle.units.proofs.DecimetreLaws.{decimetres-within}
 use Rattle.units.proofs.CheckedExamples.{fix-examples}
@@ -30,7 +30,7 @@ module _ (f : Fix) (h : T (allInLimit f)) where
   pub down-in : T (inLimit 10000 (f .down))
   down-in = and-r (inLimit 50000 (f .east)) (inLimit 10000 (f .down)) rest
 
-  area : InArea (pointOf f)
+  area : InArea (inDecimetres f)
   area =
       record {
         north = decimetres-within 50000 (f .north) north-in;
@@ -39,20 +39,20 @@ module _ (f : Fix) (h : T (allInLimit f)) where
       }
 
 -- ---- the two answers
-pub position-at : (f : Fix) → allInLimit f ≡ true → positionOf f ≡ At (pointOf f)
+pub position-at : (f : Fix) → allInLimit f ≡ true → positionOf f ≡ At (inDecimetres f)
 unfolding positionOf
-position-at f e = choose-true (allInLimit f) (At (pointOf f)) Nowhere e
+position-at f e = choose-true (allInLimit f) (At (inDecimetres f)) Nowhere e
 
 pub position-nowhere : (f : Fix) → allInLimit f ≡ false → positionOf f ≡ Nowhere
 unfolding positionOf
-position-nowhere f e = choose-false (allInLimit f) (At (pointOf f)) Nowhere e
+position-nowhere f e = choose-false (allInLimit f) (At (inDecimetres f)) Nowhere e
 
 -- ---- and where they lie
 pub position-in-area : (f : Fix) → IsPosition (positionOf f)
 unfolding positionOf choose
 position-in-area f = when (allInLimit f) (area f)
   where
-    when : (t : Bool) → (T t → InArea (pointOf f)) → IsPosition (choose t (At (pointOf f)) Nowhere)
+    when : (t : Bool) → (T t → InArea (inDecimetres f)) → IsPosition (choose t (At (inDecimetres f)) Nowhere)
     when true h = h tt
     when false h = tt
 

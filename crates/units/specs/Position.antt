@@ -1,6 +1,6 @@
 -- The position of a fix. Refusal 13 of document 01: "a fix is NaN, infinite, or beyond 50,000 m (down 10,000 m)". Assumes nothing.
 use mathlib.Core.Bool.{Bool, _&&_}
-use Rattle.integers.specs.Choose.{choose}
+use Rattle.conditions.specs.Choose.{choose}
 use Rattle.plane.specs.declared.Point.{Point}
 use Rattle.plane.specs.Area.{InArea}
 use Rattle.units.specs.declared.Fix.{Fix}
@@ -8,14 +8,14 @@ use Rattle.units.specs.declared.Position.{Position}
 use Rattle.units.specs.declared.Position.the-variants.{At, Nowhere}
 use Rattle.units.specs.Decimetres.{decimetresOf, inLimit}
 
-abbrev pub pointOf : Fix → Point
-pointOf f = record { north = decimetresOf (f .north); east = decimetresOf (f .east); down = decimetresOf (f .down) }
+abbrev pub inDecimetres : Fix → Point
+inDecimetres f = record { north = decimetresOf (f .north); east = decimetresOf (f .east); down = decimetresOf (f .down) }
 
 unfoldable pub allInLimit : Fix → Bool
 allInLimit f = inLimit 50000 (f .north) && (inLimit 50000 (f .east) && inLimit 10000 (f .down))
 
 unfoldable pub positionOf : Fix → Position
-positionOf f = choose (allInLimit f) (At (pointOf f)) Nowhere
+positionOf f = choose (allInLimit f) (At (inDecimetres f)) Nowhere
 
 -- where there is a point, it lies in the area
 abbrev pub IsPosition : Position → Type 0

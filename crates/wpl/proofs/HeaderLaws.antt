@@ -8,10 +8,11 @@ use native.Mathlib.Omega.{arith}
 use lib.Dec.{eqb, leb, ltb}
 use lib.ListN.{length, drop, length-drop}
 use borrow.Author.Tests.{le-leb, lt-ltb, eq-eqb, ltb-true, leb-true, eqb-true}
+use Rattle.conditions.specs.Both.{both}
+use Rattle.conditions.proofs.Bools.{both-true, both-first, both-second}
 use Rattle.refusals.specs.Numbers.{fileTooShort, noMark, noVersion, noSerial, wrongArea}
 use Rattle.refusals.specs.Outcome.{good}
-use Rattle.refusals.specs.Sweep.{done, both}
-use Rattle.refusals.proofs.Bools.{both-true, both-first, both-second}
+use Rattle.refusals.specs.Sweep.{done}
 use Rattle.refusals.proofs.OutcomeLaws.{check-true, check-means}
 use Rattle.records.specs.Numbers.{u16At, u32At, u16Bytes, u32Bytes}
 use Rattle.records.specs.Walk.{Walked, walk, fills, flat}

@@ -11,13 +11,15 @@ use lib.IntN.{ℤ, pos}
 use lib.ListN.{length, take, drop, length-drop, drop-of-length-le, List·getD-eq-default}
 use lib.Seq.{length-take-le}
 use borrow.Author.Tests.{le-leb, lt-leb, lt-ltb, le-ltb, eq-eqb, ne-eqb, ltb-true, ltb-false, eqb-true}
+use Rattle.conditions.specs.Both.{both}
+use Rattle.conditions.proofs.ChooseLaws.{choose-false}
+use Rattle.conditions.proofs.Bools.{by-bool, clash, both-on, both-second, both-off, both-off-second}
+use Rattle.conditions.proofs.BetweenLaws.{between-test, between-under, between-over}
 use Rattle.integers.proofs.BoundLaws.{within-lit}
-use Rattle.integers.proofs.ChooseLaws.{choose-false}
 use Rattle.refusals.specs.declared.Refusal.{Refusal}
 use Rattle.refusals.specs.Numbers.{fileTooShort, noMark, noVersion, noSerial, wrongArea}
 use Rattle.refusals.specs.Outcome.{Outcome, good, refused, check, andThen, refusalOf, isGood}
-use Rattle.refusals.specs.Sweep.{Done, done, both}
-use Rattle.refusals.proofs.Bools.{by-bool, clash, both-true, both-on, both-second, both-off, both-off-second}
+use Rattle.refusals.specs.Sweep.{Done, done}
 use Rattle.refusals.proofs.OutcomeLaws.{Proper, proper-good, proper-check, proper-then, check-true, check-false, then-good, then-means, then-stops, never-good}
 use Rattle.refusals.proofs.SweepLaws.{good-is}
 use Rattle.buffers.specs.Splice.{over, zeroed}
@@ -26,7 +28,7 @@ use Rattle.plane.specs.Area.{InArea}
 use Rattle.plane.specs.declared.Point.{Point}
 use Rattle.plan.specs.declared.Head.{Head}
 use Rattle.plan.specs.declared.Plan.{Plan}
-use Rattle.plan.specs.Limits.{fewestPoints, mostPoints, courses}
+use Rattle.plan.specs.Limits.{fewestPoints, mostPoints, fullCircle}
 use Rattle.plan.specs.Places.{noPoint, pointsAt, coursesAt, padded, seen, block, planNumbers, numbersOf, plannedIn, Filled}
 use Rattle.plan.specs.Rules.{modeOf, coursesFit}
 use Rattle.plan.specs.Stands.{IsCourse, Bounded, Long, rulesOf}
@@ -36,7 +38,8 @@ use Rattle.plan.proofs.PlaceLaws.{rules-padded}
 use Rattle.plan.proofs.RuleLaws.{rules-few, rules-many, rules-courses, rules-proper, rules-clean, rules-passed}
 use Rattle.manager.specs.declared.State.{State}
 use Rattle.manager.specs.State.{emptyPlan, emptyState, firstProgress, startOf}
-use Rattle.records.specs.Kinds.{newest, between, Parts, noParts}
+use Rattle.records.specs.Versions.{newest}
+use Rattle.records.specs.Kinds.{Parts, noParts}
 use Rattle.records.specs.Gather.{headerLength, gatherFrom, InRange}
 use Rattle.records.specs.declared.Gathered.{Gathered}
 use Rattle.records.specs.Held.{counted, gatheredOf, numbersIn}
@@ -105,17 +108,17 @@ refusal-is {A} (refused m p) n q e h = λ i. refused (e i .number) (e i .place)
 
 module _ (r : ℕ) (f : List ℕ) where
   pub reader-low : r < 1 → loadOf r f ≡ refused noVersion 0
-  unfolding loadOf between
-  reader-low h = check-false _ noVersion _ (both-off _ _ (lt-leb 1 r h))
+  unfolding loadOf
+  reader-low h = check-false _ noVersion _ (between-under 1 newest r h)
 
   pub reader-high : newest < r → loadOf r f ≡ refused noVersion 0
-  unfolding loadOf between
-  reader-high h = check-false _ noVersion _ (both-off-second _ _ (lt-leb r newest h))
+  unfolding loadOf
+  reader-high h = check-false _ noVersion _ (between-over 1 newest r h)
 
   module _ (low : 1 ≤ r) (high : r ≤ newest) where
     reader-right : loadOf r f ≡ andThen (headerOf f) (λ (_ : Done). bodyOf r f)
-    unfolding loadOf between
-    reader-right = check-true _ noVersion _ (both-true _ _ (le-leb 1 r low) (le-leb r newest high))
+    unfolding loadOf
+    reader-right = check-true _ noVersion _ (between-test 1 newest r low high)
 
     pub header-stops : (n : ℕ) → refusalOf (headerOf f) ≡ record { number = n; place = 0 } → (n ≡ 0 → ⊥) → loadOf r f ≡ refused n 0
     header-stops n e h = reader-right ∙ then-stops (headerOf f) n 0 _ (refusal-is (headerOf f) n 0 e h)
@@ -151,7 +154,7 @@ listed-area ps h i =
     by-bool (ltb i (length ps)) (λ t. h i (ltb-true _ _ t))
     (λ u. subst InArea (sym (List·getD-eq-default ps noPoint {n = i} (ltb-false _ _ u))) none-in-area)
 
-listed-course : (cs : List ℕ) → ((i : ℕ) → i < length cs → coursesAt cs i < courses) → (i : ℕ) → coursesAt cs i < courses
+listed-course : (cs : List ℕ) → ((i : ℕ) → i < length cs → coursesAt cs i < fullCircle) → (i : ℕ) → coursesAt cs i < fullCircle
 listed-course cs h i =
     by-bool (ltb i (length cs)) (λ t. h i (ltb-true _ _ t)) (λ u. omega (arith, List·getD-eq-default cs 0 {n = i} (ltb-false _ _ u)))
 

@@ -3,12 +3,14 @@ use mathlib.Core.Path.{_≡_, refl, ap, _∙_}
 use mathlib.Core.Bool.{true}
 use mathlib.Core.List.{List}
 use Prim.Native.Nat.{ℕ}
+use Rattle.conditions.specs.Between.{between}
 use Rattle.refusals.specs.Numbers.{noVersion}
 use Rattle.refusals.specs.Outcome.{good, andThen}
 use Rattle.refusals.specs.Sweep.{Done, done}
 use Rattle.refusals.proofs.OutcomeLaws.{check-true, check-means, then-good, then-means}
 use Rattle.manager.specs.declared.State.{State}
-use Rattle.records.specs.Kinds.{newest, between, Parts}
+use Rattle.records.specs.Versions.{newest}
+use Rattle.records.specs.Kinds.{Parts}
 use Rattle.wpl.specs.Header.{serialOf, headerOf}
 use Rattle.wpl.specs.Load.{recordsOf, partsOf, settleOf, finishOf, bodyOf, loadOf}
 

@@ -9,11 +9,12 @@ use lib.Dec.{eqb, leb, ltb}
 use lib.ListN.{length, getD, take}
 use lib.Seq.{getD-take, length-take-le}
 use borrow.Author.Tests.{eqb-true, le-leb, lt-leb}
+use Rattle.conditions.specs.Between.{between}
+use Rattle.conditions.proofs.Bools.{by-bool, both-off, both-off-second}
 use Rattle.refusals.specs.Outcome.{Outcome, good, check, andThen}
 use Rattle.refusals.specs.Sweep.{Done, done}
-use Rattle.refusals.proofs.Bools.{by-bool, both-off, both-off-second}
 use Rattle.records.specs.Numbers.{u16At, u32At}
-use Rattle.records.specs.Kinds.{newest, between}
+use Rattle.records.specs.Versions.{newest}
 use Rattle.records.specs.Gather.{headerLength}
 use Rattle.wpl.specs.Header.{mostArea, markedOf, versionOf, serialOf, areaOf, areaFits, headerOf}
 use Rattle.wpl.specs.Load.{bodyOf, loadOf}

@@ -7,17 +7,17 @@ use native.Mathlib.Nat.{add-sub-cancel-left}
 use lib.Dec.{eqb}
 use lib.ListN.{length, getD, take, drop}
 use borrow.Author.Tests.{eq-eqb, ne-eqb}
-use Rattle.integers.proofs.ChooseLaws.{choose-true, choose-false}
+use Rattle.conditions.proofs.ChooseLaws.{choose-true, choose-false}
 use Rattle.refusals.specs.Outcome.{isGood}
 use Rattle.records.specs.Walk.{walk, more}
-use Rattle.records.specs.Kinds.{newest}
+use Rattle.records.specs.Versions.{newest}
 use Rattle.records.specs.Gather.{endAt}
 use Rattle.records.proofs.WalkLaws.{walk-at-end, walk-at-cut, walk-at-more}
 use Rattle.records.proofs.StepLaws.{Whole}
 use Rattle.wpl.specs.declared.Span.{Span}
 use Rattle.wpl.specs.declared.Span.the-variants.{At, Nothing}
 use Rattle.wpl.specs.Load.{recordsOf, loadOf, loadedOf}
-use Rattle.wpl.specs.Note.{wantedOf, leftOf, noteIn, noteOf, Within, partOf}
+use Rattle.wpl.specs.Note.{wantedOf, leftOf, noteIn, noteOf, SpanFits, partOf}
 use Rattle.wpl.proofs.LoadLaws.{loads-when}
 
 -- ---- the record at an offset
@@ -66,5 +66,5 @@ module _ (x : Span) (f : List ℕ) where
   pub part-nothing : x ≡ Nothing → [] ≡ partOf x f
   part-nothing e = ap (λ (y : Span). partOf y f) (sym e)
 
-pub span-bounds : (x : Span) (start stop n : ℕ) → Within x n → x ≡ At start stop → (start ≤ stop) × (stop ≤ n)
-span-bounds x start stop n w e = subst (λ (y : Span). Within y n) e w
+pub span-bounds : (x : Span) (start stop n : ℕ) → SpanFits x n → x ≡ At start stop → (start ≤ stop) × (stop ≤ n)
+span-bounds x start stop n w e = subst (λ (y : Span). SpanFits y n) e w

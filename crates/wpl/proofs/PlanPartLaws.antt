@@ -10,16 +10,16 @@ use lib.IntN.{ℤ, pos}
 use lib.ListN.{length, getD, List·getD-eq-default}
 use lib.Seq.{ext-getD}
 use borrow.Author.Tests.{eqb-true, ltb-true, ltb-false, le-ltb}
-use Rattle.integers.proofs.ChooseLaws.{choose-false}
+use Rattle.conditions.proofs.ChooseLaws.{choose-false}
+use Rattle.conditions.proofs.Bools.{by-bool, both-first, both-second}
 use Rattle.refusals.specs.Outcome.{isGood}
-use Rattle.refusals.proofs.Bools.{by-bool, both-first, both-second}
 use Rattle.refusals.proofs.SweepLaws.{every-means}
 use Rattle.plane.specs.declared.Point.{Point}
 use Rattle.plan.specs.declared.Mode.{Mode}
 use Rattle.plan.specs.declared.Mode.the-variants.{Lines, Fillets, Dubins}
 use Rattle.plan.specs.declared.Plan.{Plan}
-use Rattle.plan.specs.Limits.{mostPoints, courses, insideOf, zeroOf, radiusFits}
-use Rattle.plan.specs.Places.{noPoint, coursesAt, numberAt, placeAt, courseAt, pointOf, courseOf, padded, Filled}
+use Rattle.plan.specs.Limits.{mostPoints, fullCircle, insideOf, zeroOf, radiusFits}
+use Rattle.plan.specs.Places.{noPoint, coursesAt, numberAt, placeAt, courseAt, planPoint, planCourse, padded, Filled}
 use Rattle.plan.specs.Rules.{modeOf, rulesOn}
 use Rattle.plan.specs.Stands.{givenOf, pointFits, courseFits, valuesFit, placeFits, placesFit, standsOf}
 use Rattle.plan.specs.Loaded.{planOf}
@@ -82,17 +82,17 @@ module _ (p : Plan) (filled : Filled p) (stands : standsOf p ≡ true) where
   given-most = omega (arith, count-most, given-le (p .head .mode) (p .head .count))
 
   pub points-length : length (pointsOf p) ≡ p .head .count
-  points-length = listed-length (pointOf p) (p .head .count) 0
+  points-length = listed-length (planPoint p) (p .head .count) 0
 
   courses-length : length (coursesOf p) ≡ given
-  courses-length = listed-length (courseOf p) given 0
+  courses-length = listed-length (planCourse p) given 0
 
   -- ---- the places from the count on
   place-fits : (i : ℕ) → i < mostPoints → placeFits p i ≡ true
   unfolding placesFit
   place-fits i l = every-means (placeFits p) (mostPoints - 0) 0 (stands-tests p stands .places) i (omega arith) (omega arith)
 
-  point-unused : (i : ℕ) → p .head .count ≤ i → i < mostPoints → zeroOf (pointOf p i) ≡ true
+  point-unused : (i : ℕ) → p .head .count ≤ i → i < mostPoints → zeroOf (planPoint p i) ≡ true
   unfolding placeFits valuesFit pointFits
   point-unused i h l = sym (choose-false _ _ _ (le-ltb i (p .head .count) h)) ∙ both-first _ _ (place-fits i l)
 
@@ -113,17 +113,17 @@ module _ (p : Plan) (filled : Filled p) (stands : standsOf p ≡ true) where
   course-unused i h l = zero-means _ (sym (choose-false _ _ _ (le-ltb i given h)) ∙ both-second _ _ (place-fits i l))
 
   norths-kept : padded (λ (q : Point). q .north) mostPoints (pos 0) (pointsOf p) ≡ p .norths
-  norths-kept = kept (λ (q : Point). q .north) noPoint (pointOf p) (p .head .count) (p .norths) (filled .north) (λ i l. refl) north-unused
+  norths-kept = kept (λ (q : Point). q .north) noPoint (planPoint p) (p .head .count) (p .norths) (filled .north) (λ i l. refl) north-unused
 
   easts-kept : padded (λ (q : Point). q .east) mostPoints (pos 0) (pointsOf p) ≡ p .easts
-  easts-kept = kept (λ (q : Point). q .east) noPoint (pointOf p) (p .head .count) (p .easts) (filled .east) (λ i l. refl) east-unused
+  easts-kept = kept (λ (q : Point). q .east) noPoint (planPoint p) (p .head .count) (p .easts) (filled .east) (λ i l. refl) east-unused
 
   downs-kept : padded (λ (q : Point). q .down) mostPoints (pos 0) (pointsOf p) ≡ p .downs
-  downs-kept = kept (λ (q : Point). q .down) noPoint (pointOf p) (p .head .count) (p .downs) (filled .down) (λ i l. refl) down-unused
+  downs-kept = kept (λ (q : Point). q .down) noPoint (planPoint p) (p .head .count) (p .downs) (filled .down) (λ i l. refl) down-unused
 
   courses-kept : padded pos mostPoints (pos 0) (coursesOf p) ≡ p .courses
   courses-kept =
-      kept pos 0 (courseOf p) given (p .courses) (filled .course) (λ i l. sym (places-mean p (stands-tests p stands .places) .1 i l .sign)) course-unused
+      kept pos 0 (planCourse p) given (p .courses) (filled .course) (λ i l. sym (places-mean p (stands-tests p stands .places) .1 i l .sign)) course-unused
 
   -- ---- the places below it
   point-used : PointsCarried (pointsOf p)
@@ -131,14 +131,14 @@ module _ (p : Plan) (filled : Filled p) (stands : standsOf p ≡ true) where
       let n = points-length in
       let m = count-most in
       let e : 0 + i ≡ i = omega arith in
-      rw (listed-at (pointOf p) (p .head .count) 0 i noPoint (omega arith), e) (places-mean p (stands-tests p stands .places) .0 i (omega arith))
+      rw (listed-at (planPoint p) (p .head .count) 0 i noPoint (omega arith), e) (places-mean p (stands-tests p stands .places) .0 i (omega arith))
 
-  course-used : (i : ℕ) → i < length (coursesOf p) → coursesAt (coursesOf p) i < courses
+  course-used : (i : ℕ) → i < length (coursesOf p) → coursesAt (coursesOf p) i < fullCircle
   course-used i l =
       let n = courses-length in
       let m = given-most in
       let e : 0 + i ≡ i = omega arith in
-      rw (listed-at (courseOf p) given 0 i 0 (omega arith), e) (places-mean p (stands-tests p stands .places) .1 i (omega arith) .low)
+      rw (listed-at (planCourse p) given 0 i 0 (omega arith), e) (places-mean p (stands-tests p stands .places) .1 i (omega arith) .low)
 
   -- ---- the plan
   mode-kept : modeOf (p .head .radius) (length (coursesOf p)) ≡ p .head .mode

@@ -7,12 +7,12 @@ use Prim.Native.Nat.{ℕ, zero, suc, _+_, _*_, _≤_, _<_}
 use native.Mathlib.Omega.{arith}
 use lib.Dec.{eqb·suc-zero}
 use lib.ListN.{length, length-append}
-use Rattle.integers.specs.Choose.{choose}
+use Rattle.conditions.specs.Choose.{choose}
 use Rattle.refusals.specs.Outcome.{good}
 use Rattle.plane.specs.declared.Point.{Point}
 use Rattle.plane.specs.Area.{InArea}
 use Rattle.plan.specs.declared.Plan.{Plan}
-use Rattle.plan.specs.Limits.{leastRadius, mostRadius, courses}
+use Rattle.plan.specs.Limits.{leastRadius, mostRadius, fullCircle}
 use Rattle.plan.specs.Places.{pointsAt, coursesAt}
 use Rattle.plan.proofs.LimitLaws.{area-test}
 use Rattle.records.specs.Numbers.{u16Bytes}
@@ -70,7 +70,7 @@ abbrev pub PointsCarried : List Point → Type 0
 PointsCarried ps = (i : ℕ) → i < length ps → InArea (pointsAt ps i)
 
 abbrev pub CoursesCarried : ℕ → List ℕ → Type 0
-CoursesCarried v cs = (i : ℕ) → i < length cs → (3 ≤ v) × (coursesAt cs i < courses)
+CoursesCarried v cs = (i : ℕ) → i < length cs → (3 ≤ v) × (coursesAt cs i < fullCircle)
 
 pub record Carried (v : ℕ) (p : Plan) : Type 0 where
   pub radius : RadiusCarried v (p .head .radius)

@@ -6,6 +6,7 @@ use Prim.Native.Nat.{ℕ, _≤_}
 use native.Mathlib.Omega.{arith}
 use lib.ListN.{length, drop}
 use lib.Seq.{take-append-seam}
+use Rattle.conditions.proofs.BetweenLaws.{between-test}
 use Rattle.refusals.specs.Numbers.{noVersion}
 use Rattle.refusals.specs.Outcome.{good, andThen, isGood}
 use Rattle.refusals.specs.Sweep.{done}
@@ -19,14 +20,14 @@ use Rattle.manager.specs.declared.State.{State}
 use Rattle.manager.specs.State.{startOf}
 use Rattle.manager.proofs.StateLaws.{valid-stands}
 use Rattle.records.specs.Walk.{flat}
-use Rattle.records.specs.Kinds.{newest}
+use Rattle.records.specs.Versions.{newest}
 use Rattle.records.specs.Gather.{headerLength}
 use Rattle.writer.specs.File.{planRecords, fileOf}
 use Rattle.wpl.specs.Header.{headerOf}
 use Rattle.wpl.specs.Load.{partsOf, settleOf, finishOf, bodyOf, loadOf}
 use Rattle.wpl.specs.Write.{carriedSince, bufferOf}
 use Rattle.wpl.specs.RoundTrip.{RoundTrip, EveryReader}
-use Rattle.wpl.proofs.WriteLaws.{between-test, since-first, write-passes, good-passes}
+use Rattle.wpl.proofs.WriteLaws.{since-first, write-passes, good-passes}
 use Rattle.wpl.proofs.HeaderLaws.{header-version, header-serial, header-good, header-records}
 use Rattle.wpl.proofs.PlanRecordLaws.{plan-fills, plan-size, partsOfPlan, gather-plan}
 use Rattle.wpl.proofs.PlanPartLaws.{points-length, plan-kept, plan-rules, plan-carried}

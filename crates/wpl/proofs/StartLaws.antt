@@ -7,7 +7,7 @@ use Rattle.refusals.specs.Numbers.{noState}
 use Rattle.refusals.specs.Outcome.{Outcome, good, refused, isGood}
 use Rattle.refusals.specs.Sweep.{Done}
 use Rattle.refusals.proofs.OutcomeLaws.{then-means}
-use Rattle.plan.specs.Loaded.{planOf, Loads}
+use Rattle.plan.specs.Loaded.{planOf, Loadable}
 use Rattle.plan.proofs.LoadedLaws.{loaded-stands}
 use Rattle.units.specs.declared.Fix.{Fix}
 use Rattle.manager.specs.declared.State.{State}
@@ -47,7 +47,7 @@ module _ (r : ℕ) (f : List ℕ) (s : State) (loads : loadOf r f ≡ good s) wh
   pub load-starts : s ≡ startOf (planOf (serialOf f) (load-parts .0 .radius) (load-parts .0 .points) (load-parts .0 .courses))
   load-starts = finish-makes (serialOf f) (load-parts .0) s (load-parts .1 .1)
 
-  listed : Loads (serialOf f) (load-parts .0 .radius) (load-parts .0 .points) (load-parts .0 .courses)
+  listed : Loadable (serialOf f) (load-parts .0 .radius) (load-parts .0 .points) (load-parts .0 .courses)
   unfolding rulesIn
   listed =
       let a = load-parts .0 in

@@ -6,10 +6,10 @@ use native.Mathlib.Omega.{arith}
 use lib.Dec.{eqb, leb}
 use lib.ListN.{length}
 use borrow.Author.Tests.{leb-true, le-leb, lt-leb}
+use Rattle.conditions.proofs.BetweenLaws.{between-test, between-under, between-over, between-most}
 use Rattle.refusals.specs.declared.Refusal.{Refusal}
 use Rattle.refusals.specs.Numbers.{noVersion, tooNew, noState, noRoom}
 use Rattle.refusals.specs.Outcome.{good, refused, check, refusalOf, isGood}
-use Rattle.refusals.proofs.Bools.{both-true, both-second, both-off, both-off-second}
 use Rattle.refusals.proofs.OutcomeLaws.{Proper, proper-good, proper-check, check-true, check-false, check-first, check-rest}
 use Rattle.plan.specs.declared.Mode.{Mode}
 use Rattle.plan.specs.declared.Mode.the-variants.{Lines, Fillets, Dubins}
@@ -19,14 +19,10 @@ use Rattle.plan.proofs.StandLaws.{stands-tests, places-mean}
 use Rattle.manager.specs.declared.State.{State}
 use Rattle.manager.specs.State.{validOf}
 use Rattle.manager.proofs.StateLaws.{valid-stands, valid-means}
-use Rattle.records.specs.Kinds.{newest, between}
+use Rattle.records.specs.Versions.{newest}
 use Rattle.writer.specs.File.{fileOf, Writable}
 use Rattle.wpl.specs.Write.{carriedSince, writeOf}
 use Rattle.wpl.proofs.LoadLaws.{refusal-is}
-
-pub between-test : (a b x : ℕ) → a ≤ x → x ≤ b → between a b x ≡ true
-unfolding between
-between-test a b x h k = both-true _ _ (le-leb a x h) (le-leb x b k)
 
 -- no version before the first carries a plan
 pub since-first : (mode : Mode) → 1 ≤ carriedSince mode
@@ -49,12 +45,12 @@ module _ (s : State) (version room : ℕ) where
 
   module _ (v : validOf s ≡ true) where
     pub version-low : version < 1 → writeOf s version room ≡ refused noVersion 0
-    unfolding writeOf between
-    version-low h = check-true _ noState _ v ∙ check-false _ noVersion _ (both-off _ _ (lt-leb 1 version h))
+    unfolding writeOf
+    version-low h = check-true _ noState _ v ∙ check-false _ noVersion _ (between-under 1 newest version h)
 
     pub version-high : newest < version → writeOf s version room ≡ refused noVersion 0
-    unfolding writeOf between
-    version-high h = check-true _ noState _ v ∙ check-false _ noVersion _ (both-off-second _ _ (lt-leb version newest h))
+    unfolding writeOf
+    version-high h = check-true _ noState _ v ∙ check-false _ noVersion _ (between-over 1 newest version h)
 
     module _ (low : 1 ≤ version) (high : version ≤ newest) where
       pub not-carried : version < carriedSince (s .plan .head .mode) → writeOf s version room ≡ refused tooNew 0
@@ -78,14 +74,14 @@ module _ (s : State) (version room : ℕ) where
 
   -- and back
   pub good-passes : isGood (writeOf s version room) ≡ true → Passes s version room
-  unfolding writeOf between
+  unfolding writeOf
   good-passes g =
       let a = check-rest _ noState _ g in
       let b = check-rest _ noVersion _ a in
       let c = check-rest _ tooNew _ b in
       record {
         valid = check-first _ noState _ g;
-        newer = leb-true version newest (both-second (leb 1 version) (leb version newest) (check-first _ noVersion _ a));
+        newer = between-most 1 newest version (check-first _ noVersion _ a);
         carried = leb-true (carriedSince (s .plan .head .mode)) version (check-first _ tooNew _ b);
         roomy = leb-true (length (fileOf version (s .plan))) room (check-first _ noRoom _ c);
       }

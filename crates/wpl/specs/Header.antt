@@ -4,9 +4,10 @@ use mathlib.Core.List.{List}
 use Prim.Native.Nat.{ℕ, _-_}
 use lib.Dec.{eqb, leb, ltb}
 use lib.ListN.{length, getD}
+use Rattle.conditions.specs.Both.{both}
 use Rattle.refusals.specs.Numbers.{fileTooShort, noMark, noVersion, noSerial, wrongArea}
 use Rattle.refusals.specs.Outcome.{Outcome, good, check}
-use Rattle.refusals.specs.Sweep.{Done, done, both}
+use Rattle.refusals.specs.Sweep.{Done, done}
 use Rattle.records.specs.Numbers.{u16At, u32At}
 use Rattle.records.specs.Gather.{headerLength}
 

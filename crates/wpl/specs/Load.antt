@@ -3,6 +3,7 @@
 use mathlib.Core.List.{List}
 use Prim.Native.Nat.{ℕ}
 use lib.ListN.{length, drop}
+use Rattle.conditions.specs.Between.{between}
 use Rattle.refusals.specs.Numbers.{noVersion}
 use Rattle.refusals.specs.Outcome.{Outcome, good, refused, check, andThen}
 use Rattle.refusals.specs.Sweep.{Done}
@@ -14,7 +15,8 @@ use Rattle.manager.specs.declared.State.{State}
 use Rattle.manager.specs.State.{emptyState, startOf}
 use Rattle.records.specs.declared.Gathered.{Gathered}
 use Rattle.records.specs.Walk.{Walked, walk}
-use Rattle.records.specs.Kinds.{newest, between, Parts, noParts}
+use Rattle.records.specs.Versions.{newest}
+use Rattle.records.specs.Kinds.{Parts, noParts}
 use Rattle.records.specs.Gather.{headerLength, gather}
 use Rattle.wpl.specs.declared.Loaded.{Loaded}
 use Rattle.wpl.specs.declared.Entered.{Entered}

@@ -5,11 +5,12 @@ use mathlib.Core.List.{List, []}
 use Prim.Native.Nat.{ℕ, _-_, _≤_}
 use lib.Dec.{eqb}
 use lib.ListN.{take, drop}
-use Rattle.integers.specs.Choose.{choose}
+use Rattle.conditions.specs.Choose.{choose}
+use Rattle.conditions.specs.Both.{both}
 use Rattle.refusals.specs.Outcome.{isGood}
-use Rattle.refusals.specs.Sweep.{both}
 use Rattle.records.specs.Walk.{Walked, end, short, more}
-use Rattle.records.specs.Kinds.{newest, noteRow}
+use Rattle.records.specs.Versions.{newest}
+use Rattle.records.specs.Kinds.{noteRow}
 use Rattle.wpl.specs.declared.Span.{Span}
 use Rattle.wpl.specs.declared.Span.the-variants.{At, Nothing}
 use Rattle.wpl.specs.Load.{recordsOf, loadOf}
@@ -31,9 +32,9 @@ unfoldable pub noteOf : List ℕ → ℕ → List ℕ
 noteOf f n = choose (isGood (loadOf newest f)) (noteIn n (recordsOf f)) []
 
 -- ---- by offsets, as the code finds it; for proofs alone
-abbrev pub Within : Span → ℕ → Type 0
-Within Nothing n = Unit {0}
-Within (At start stop) n = (start ≤ stop) × (stop ≤ n)
+abbrev pub SpanFits : Span → ℕ → Type 0
+SpanFits Nothing n = Unit {0}
+SpanFits (At start stop) n = (start ≤ stop) × (stop ≤ n)
 
 abbrev pub partOf : Span → List ℕ → List ℕ
 partOf Nothing f = []

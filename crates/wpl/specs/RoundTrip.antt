@@ -8,7 +8,7 @@ use lib.ListN.{length, take}
 use Rattle.refusals.specs.Outcome.{good}
 use Rattle.manager.specs.declared.State.{State}
 use Rattle.manager.specs.State.{startOf, validOf}
-use Rattle.records.specs.Kinds.{newest}
+use Rattle.records.specs.Versions.{newest}
 use Rattle.writer.specs.File.{fileOf}
 use Rattle.wpl.specs.Load.{loadOf}
 use Rattle.wpl.specs.Write.{carriedSince, writeOf, bufferOf}

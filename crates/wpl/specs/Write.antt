@@ -4,13 +4,15 @@ use mathlib.Core.List.{List}
 use Prim.Native.Nat.{ℕ}
 use lib.Dec.{leb}
 use lib.ListN.{length}
+use Rattle.conditions.specs.Between.{between}
 use Rattle.refusals.specs.Numbers.{noVersion, tooNew, noState, noRoom}
 use Rattle.refusals.specs.Outcome.{Outcome, good, refused, check}
 use Rattle.plan.specs.declared.Mode.{Mode}
 use Rattle.plan.specs.declared.Mode.the-variants.{Lines, Fillets, Dubins}
 use Rattle.manager.specs.declared.State.{State}
 use Rattle.manager.specs.State.{validOf}
-use Rattle.records.specs.Kinds.{newest, pointRow, radiusRow, courseRow, between}
+use Rattle.records.specs.Versions.{newest}
+use Rattle.records.specs.Kinds.{pointRow, radiusRow, courseRow}
 use Rattle.buffers.specs.Splice.{over}
 use Rattle.writer.specs.File.{fileOf}
 use Rattle.wpl.specs.declared.Written.{Written}

@@ -4,14 +4,16 @@ use manager::State;
 use plan::Head;
 use plan::Mode;
 use plan::Plan;
-use records::AREA;
+use records::AREA_OFFSET;
 use records::Gathered;
 use records::MARK;
-use records::SERIAL;
-use records::VERSION;
+use records::NEWEST;
+use records::SERIAL_OFFSET;
+use records::VERSION_OFFSET;
 ghost use mathlib.Core.Path.{_≡_};
 ghost use Prim.Native.Nat.{_+_, _≤_};
 ghost use lib.ListN.{length, take, drop};
+ghost use Rattle.conditions.specs.All.{All};
 ghost use Rattle.refusals.specs.Outcome.{good, refused, refusalOf};
 ghost use Rattle.plan.specs.Limits.{mostPoints};
 ghost use Rattle.plan.specs.Places.{seen, planNumbers, numbersOf, Filled};
@@ -26,23 +28,20 @@ ghost use Rattle.wpl.specs.Load.{recordsOf, finishOf, loadOf, loadedOf, 
 ghost use Rattle.wpl.specs.Write.{carriedSince, writeOf, writtenOf, bufferOf};
 ghost use Rattle.wpl.specs.RoundTrip.{RoundTrip, EveryReader};
 ghost use Rattle.wpl.specs.Starts.{Starts};
-ghost use Rattle.wpl.specs.Order.{All, loadOrder, writeOrder};
-ghost use Rattle.wpl.specs.Note.{wantedOf, leftOf, noteIn, noteOf, Within, partOf};
-
-// The newest version.
-pub const NEWEST: u32 = 3;
+ghost use Rattle.wpl.specs.Order.{Refused, loadOrder, writeOrder};
+ghost use Rattle.wpl.specs.Note.{wantedOf, leftOf, noteIn, noteOf, SpanFits, partOf};
 
 // The most bytes after the header.
 pub const MOST_AREA: usize = 8192;
 
 // Where the blocks of a plan's numbers start.
-const NORTHS: usize = plan::NORTH_BLOCK * plan::POINTS;
+const NORTHS_START: usize = plan::NORTH_BLOCK * plan::MOST_POINTS;
 
-const EASTS: usize = plan::EAST_BLOCK * plan::POINTS;
+const EASTS_START: usize = plan::EAST_BLOCK * plan::MOST_POINTS;
 
-const DOWNS: usize = plan::DOWN_BLOCK * plan::POINTS;
+const DOWNS_START: usize = plan::DOWN_BLOCK * plan::MOST_POINTS;
 
-const COURSES: usize = plan::COURSE_BLOCK * plan::POINTS;
+const COURSES_START: usize = plan::COURSE_BLOCK * plan::MOST_POINTS;
 
 // A state, or a refusal with its place and the empty state.
 pub struct Loaded {
@@ -90,8 +89,8 @@ fn area_fits(file: &[u8]) -> bool
     requires { ⌜ headerLength ≤ length (now file) ⌝ }
     ensures { λ r. ⌜ r ≡ areaFits (now (file .entry)) ⌝ }
 {
-    let area = records::u16_at(file, AREA) as usize;
-    if area == file.len() - records::HEADER {
+    let area = records::u16_at(file, AREA_OFFSET) as usize;
+    if area == file.len() - records::HEADER_LENGTH {
         return area <= MOST_AREA;
     }
     false
@@ -101,16 +100,16 @@ fn area_fits(file: &[u8]) -> bool
 fn header(file: &[u8]) -> u8
     ensures { λ r. ⌜ refusalOf (headerOf (now (file .entry))) ≡ record { number = r; place = 0 } ⌝ }
 {
-    if file.len() < records::HEADER {
+    if file.len() < records::HEADER_LENGTH {
         return refusals::FILE_TOO_SHORT;
     }
     if !marked(file) {
         return refusals::NO_MARK;
     }
-    if records::u16_at(file, VERSION) == 0 {
+    if records::u16_at(file, VERSION_OFFSET) == 0 {
         return refusals::NO_VERSION;
     }
-    if records::u32_at(file, SERIAL) == 0 {
+    if records::u32_at(file, SERIAL_OFFSET) == 0 {
         return refusals::NO_SERIAL;
     }
     if area_fits(file) {
@@ -164,10 +163,10 @@ fn finish(serial: u32, gathered: Gathered, numbers: &[i32]) -> Entered
     let found = plan::rules(
         head,
         gathered.given,
-        &numbers[NORTHS..EASTS],
-        &numbers[EASTS..DOWNS],
-        &numbers[DOWNS..COURSES],
-        &numbers[COURSES..plan::NUMBERS],
+        &numbers[NORTHS_START..EASTS_START],
+        &numbers[EASTS_START..DOWNS_START],
+        &numbers[DOWNS_START..COURSES_START],
+        &numbers[COURSES_START..plan::NUMBERS],
     );
     if found.number != 0 {
         return refuse(found.number, found.place);
@@ -196,12 +195,12 @@ fn read_into(file: &[u8], reader: u32, numbers: &mut [i32]) -> Entered
     if number != 0 {
         return refuse(number, 0);
     }
-    let version = records::u16_at(file, VERSION);
+    let version = records::u16_at(file, VERSION_OFFSET);
     let gathered = records::gather(file, reader, version, numbers);
     if gathered.refusal != 0 {
         return refuse(gathered.refusal, gathered.place);
     }
-    finish(records::u32_at(file, SERIAL), gathered, numbers)
+    finish(records::u32_at(file, SERIAL_OFFSET), gathered, numbers)
 }
 
 // The plan that a file gives to a reader of a version, into numbers that are lent: norths, easts, downs and courses, as many of each as a plan
@@ -221,12 +220,12 @@ pub fn load_into(file: &[u8], reader: u32, numbers: &mut [i32]) -> Entered
 }
 
 // As many numbers from a place on as a plan has of one kind.
-fn block_of(numbers: &[i32], from: usize) -> [i32; plan::POINTS]
+fn block_of(numbers: &[i32], from: usize) -> [i32; plan::MOST_POINTS]
     requires { ⌜ from + mostPoints ≤ length (now numbers) ⌝ }
     ensures { λ r. ⌜ r ≡ take mostPoints (drop from (now (numbers .entry))) ⌝ }
 {
-    let mut block = [0i32; plan::POINTS];
-    let to = from + plan::POINTS;
+    let mut block = [0i32; plan::MOST_POINTS];
+    let to = from + plan::MOST_POINTS;
     buffers::put_numbers(&numbers[from..to], &mut block);
     block
 }
@@ -235,15 +234,15 @@ fn block_of(numbers: &[i32], from: usize) -> [i32; plan::POINTS]
 pub fn load(file: &[u8], reader: u32) -> Loaded
     ensures { λ r. ⌜ r ≡ loadedOf (loadOf reader (now (file .entry))) ⌝ }
     ensures { λ _. ⌜ Starts reader (now (file .entry)) ⌝ }
-    ensures { λ _. ⌜ All loadOrder ⌝ }
+    ensures { λ _. ⌜ All Refused loadOrder ⌝ }
 {
     let mut numbers = [0i32; plan::NUMBERS];
     let entered = load_into(file, reader, &mut numbers);
     let head = entered.head;
-    let norths = block_of(&numbers, NORTHS);
-    let easts = block_of(&numbers, EASTS);
-    let downs = block_of(&numbers, DOWNS);
-    let courses = block_of(&numbers, COURSES);
+    let norths = block_of(&numbers, NORTHS_START);
+    let easts = block_of(&numbers, EASTS_START);
+    let downs = block_of(&numbers, DOWNS_START);
+    let courses = block_of(&numbers, COURSES_START);
     let plan = Plan {
         head,
         norths,
@@ -273,9 +272,9 @@ fn carried_since(mode: Mode) -> u32
     ensures { λ r. ⌜ r ≡ carriedSince mode ⌝ }
 {
     match mode {
-        Mode::Lines => records::POINT.since as u32,
-        Mode::Fillets => records::RADIUS.since as u32,
-        Mode::Dubins => records::COURSE.since as u32,
+        Mode::Lines => records::POINT_ROW.since as u32,
+        Mode::Fillets => records::RADIUS_ROW.since as u32,
+        Mode::Dubins => records::COURSE_ROW.since as u32,
     }
 }
 
@@ -360,7 +359,7 @@ pub fn write(state: State, version: u32, file: &mut [u8]) -> Written
     ensures { λ _. ⌜ now (file .exit) ≡ bufferOf (writeOf state version (length (now (file .entry)))) (now (file .entry)) ⌝ }
     ensures { λ _. ⌜ RoundTrip state ⌝ }
     ensures { λ _. ⌜ EveryReader state ⌝ }
-    ensures { λ _. ⌜ All writeOrder ⌝ }
+    ensures { λ _. ⌜ All Refused writeOrder ⌝ }
 {
     let head = state.plan.head;
     let progress = state.progress;
@@ -380,7 +379,7 @@ pub fn write(state: State, version: u32, file: &mut [u8]) -> Written
 fn wanted(kind: u8, left: usize) -> bool
     ensures { λ r. ⌜ r ≡ wantedOf kind left ⌝ }
 {
-    if kind == records::NOTE.kind {
+    if kind == records::NOTE_ROW.kind {
         return left == 1;
     }
     false
@@ -390,7 +389,7 @@ fn wanted(kind: u8, left: usize) -> bool
 fn left_after(kind: u8, left: usize) -> usize
     ensures { λ r. ⌜ r ≡ leftOf kind left ⌝ }
 {
-    if kind == records::NOTE.kind {
+    if kind == records::NOTE_ROW.kind {
         if left == 0 {
             return 0;
         }
@@ -401,9 +400,9 @@ fn left_after(kind: u8, left: usize) -> usize
 
 // Where a note's bytes are.
 fn find_note(file: &[u8], number: usize) -> Span
-    ensures { λ r. ⌜ (partOf r (now (file .entry)) ≡ noteIn number (recordsOf (now (file .entry)))) × Within r (length (now (file .entry))) ⌝ }
+    ensures { λ r. ⌜ (partOf r (now (file .entry)) ≡ noteIn number (recordsOf (now (file .entry)))) × SpanFits r (length (now (file .entry))) ⌝ }
 {
-    let mut at: usize = records::HEADER;
+    let mut at: usize = records::HEADER_LENGTH;
     let mut left = number;
     while at < file.len() {
         let to = records::end_at(file, at);
@@ -413,7 +412,7 @@ fn find_note(file: &[u8], number: usize) -> Span
         let kind = file[at];
         if wanted(kind, left) {
             return Span::At {
-                start: at + records::HEAD,
+                start: at + records::HEAD_LENGTH,
                 end: to,
             };
         }

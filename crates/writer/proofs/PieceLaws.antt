@@ -8,8 +8,8 @@ use native.Mathlib.Omega.{arith}
 use lib.Dec.{eqb}
 use lib.ListN.{length, take, drop, length-append}
 use borrow.Author.Tests.{eq-eqb, ne-eqb}
-use Rattle.integers.specs.Choose.{choose}
-use Rattle.refusals.proofs.Bools.{by-bool}
+use Rattle.conditions.specs.Choose.{choose}
+use Rattle.conditions.proofs.Bools.{by-bool}
 use Rattle.plane.specs.declared.Point.{Point}
 use Rattle.plan.specs.declared.Plan.{Plan}
 use Rattle.records.specs.Numbers.{u16Bytes, u32Bytes}

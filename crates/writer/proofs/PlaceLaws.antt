@@ -7,11 +7,11 @@ use native.Mathlib.Omega.{arith}
 use lib.Dec.{ltb}
 use lib.ListN.{length, length-append}
 use borrow.Author.Tests.{ltb-true, ltb-false}
-use Rattle.integers.specs.Choose.{choose}
-use Rattle.refusals.proofs.Bools.{by-bool}
+use Rattle.conditions.specs.Choose.{choose}
+use Rattle.conditions.proofs.Bools.{by-bool}
 use Rattle.plane.specs.declared.Point.{Point}
 use Rattle.plan.specs.declared.Plan.{Plan}
-use Rattle.plan.specs.Places.{pointOf, courseOf}
+use Rattle.plan.specs.Places.{planPoint, planCourse}
 use Rattle.plan.specs.Stands.{givenOf, There, Aiming}
 use Rattle.plan.proofs.StandLaws.{aiming-of}
 use Rattle.plan.proofs.LoadedLaws.{given-le}
@@ -66,11 +66,11 @@ one-place i n p ps f =
 
 -- place i of a plan whose first places have a course
 abbrev placeOf : Plan → ℕ → ℕ → List ℕ
-placeOf p given i = placeBytes (ltb i given) (pointOf p i) (courseOf p i)
+placeOf p given i = placeBytes (ltb i given) (planPoint p i) (planCourse p i)
 
 -- what is left from place i on
 unfoldable pub restOf : Plan → ℕ → List ℕ
-restOf p i = flat (pointRecords (listed (pointOf p) (p .head .count - i) i) (listed (courseOf p) (givenOf (p .head .mode) (p .head .count) - i) i))
+restOf p i = flat (pointRecords (listed (planPoint p) (p .head .count - i) i) (listed (planCourse p) (givenOf (p .head .mode) (p .head .count) - i) i))
 
 rest-all : (p : Plan) → restOf p 0 ≡ placesBytes p
 unfolding restOf placesBytes
@@ -94,8 +94,8 @@ module _ (p : Plan) where
   unfolding placesBytes
   places-length =
       let g = given-le (p .head .mode) (p .head .count) in
-      let a : length (pointsOf p) ≡ p .head .count = listed-length (pointOf p) (p .head .count) 0 in
-      let b : length (coursesOf p) ≡ givenOf (p .head .mode) (p .head .count) = listed-length (courseOf p) (givenOf (p .head .mode) (p .head .count)) 0 in
+      let a : length (pointsOf p) ≡ p .head .count = listed-length (planPoint p) (p .head .count) 0 in
+      let b : length (coursesOf p) ≡ givenOf (p .head .mode) (p .head .count) = listed-length (planCourse p) (givenOf (p .head .mode) (p .head .count)) 0 in
       records-length (pointsOf p) (coursesOf p) (omega arith) ∙ rw (a, b)
 
   pub area-length-is : length (flat (planRecords p)) ≡ length (radiusBytes (p .head .radius)) + 14 * p .head .count + 4 * givenOf (p .head .mode) (p .head .count)
@@ -105,12 +105,12 @@ module _ (p : Plan) where
       → restOf p i ≡ placeOf p (givenOf (p .head .mode) (p .head .count)) i ++ restOf p (i + 1)
   unfolding restOf
   rest-next i h =
-      rw (opened (pointOf p) (p .head .count) i h)
-      (one-place i (givenOf (p .head .mode) (p .head .count)) (pointOf p i) (listed (pointOf p) (p .head .count - (i + 1)) (i + 1)) (courseOf p))
+      rw (opened (planPoint p) (p .head .count) i h)
+      (one-place i (givenOf (p .head .mode) (p .head .count)) (planPoint p i) (listed (planPoint p) (p .head .count - (i + 1)) (i + 1)) (planCourse p))
 
   rest-end : (i : ℕ) → p .head .count ≤ i → restOf p i ≡ []
   unfolding restOf pointRecords flat
-  rest-end i h = rw (ended (pointOf p) (p .head .count) i h)
+  rest-end i h = rw (ended (planPoint p) (p .head .count) i h)
 
   module _ (from : ℕ) (old : List ℕ) (at i : ℕ) (now : List ℕ) (u : Underway p from old at i now) where
     pub ends : p .head .count ≤ i → now ≡ splice from (placesBytes p) old

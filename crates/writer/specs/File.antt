@@ -4,11 +4,11 @@ use mathlib.Core.List.{List, [], _∷_, _++_}
 use Prim.Native.Nat.{ℕ, zero, suc, _+_, _≤_}
 use lib.Dec.{eqb}
 use lib.ListN.{length}
-use Rattle.integers.specs.Choose.{choose}
+use Rattle.conditions.specs.Choose.{choose}
 use Rattle.plane.specs.declared.Point.{Point}
 use Rattle.plan.specs.declared.Plan.{Plan}
 use Rattle.plan.specs.Limits.{mostPoints}
-use Rattle.plan.specs.Places.{pointOf, courseOf}
+use Rattle.plan.specs.Places.{planPoint, planCourse}
 use Rattle.plan.specs.Stands.{givenOf, Aimed, Long}
 use Rattle.records.specs.Numbers.{u16Bytes, u32Bytes}
 use Rattle.records.specs.Walk.{Walked, end, more, flat}
@@ -36,10 +36,10 @@ listed f (suc k) i = f i ∷ listed f k (i + 1)
 
 -- the points of a plan, and its courses, which the first points have
 abbrev pub pointsOf : Plan → List Point
-pointsOf p = listed (pointOf p) (p .head .count) 0
+pointsOf p = listed (planPoint p) (p .head .count) 0
 
 abbrev pub coursesOf : Plan → List ℕ
-coursesOf p = listed (courseOf p) (givenOf (p .head .mode) (p .head .count)) 0
+coursesOf p = listed (planCourse p) (givenOf (p .head .mode) (p .head .count)) 0
 
 unfoldable pub planRecords : Plan → Walked
 planRecords p = radiusRecord (p .head .radius) (pointRecords (pointsOf p) (coursesOf p))

@@ -1,15 +1,19 @@
 // The bytes of a plan file (document 01, "The plan file"): header, radius if any, then each point followed by its course if it has one.
+use integers::ONE_BYTE;
+use integers::TWO_BYTES;
 use plan::Head;
 use plane::Point;
-use records::AREA;
-use records::COURSE;
-use records::HEAD;
-use records::HEADER;
+use records::AREA_OFFSET;
+use records::COURSE_ROW;
+use records::DOWN_OFFSET;
+use records::EAST_OFFSET;
+use records::HEAD_LENGTH;
+use records::HEADER_LENGTH;
 use records::MARK;
-use records::POINT;
-use records::RADIUS;
-use records::SERIAL;
-use records::VERSION;
+use records::POINT_ROW;
+use records::RADIUS_ROW;
+use records::SERIAL_OFFSET;
+use records::VERSION_OFFSET;
 ghost use mathlib.Core.Path.{_≡_};
 ghost use mathlib.Core.List.{List, [], _∷_};
 ghost use Prim.Native.Nat.{ℕ, _+_, _≤_, _<_};
@@ -28,27 +32,18 @@ ghost use Rattle.writer.specs.File.{planRecords, fileOf, Writable};
 ghost use Rattle.writer.specs.Pieces.{mark, headerBytes, recordBytes, radiusBytes, placeBytes, placesBytes};
 
 // The lengths of the bodies, and of the records with them. A radius and a course are each a value of two bytes.
-const POINT_BODY: u8 = POINT.high as u8;
+const POINT_BODY: u8 = POINT_ROW.high as u8;
 
-const VALUE_BODY: u8 = COURSE.high as u8;
+const VALUE_BODY: u8 = COURSE_ROW.high as u8;
 
-const POINT_RECORD: usize = HEAD + POINT.high;
+const POINT_RECORD: usize = HEAD_LENGTH + POINT_ROW.high;
 
-const RADIUS_RECORD: usize = HEAD + RADIUS.high;
+const RADIUS_RECORD: usize = HEAD_LENGTH + RADIUS_ROW.high;
 
-const COURSE_RECORD: usize = HEAD + COURSE.high;
+const COURSE_RECORD: usize = HEAD_LENGTH + COURSE_ROW.high;
 
-// Where the lower half of a number of four bytes stands, and two numbers of a point.
+// Where the lower half of a number of four bytes stands.
 const LOWER: usize = 2;
-
-const EAST: usize = 4;
-
-const DOWN: usize = 8;
-
-// How many values one byte has, and two.
-const ONE_BYTE: u16 = 256;
-
-const TWO_BYTES: u32 = 65536;
 
 // A number as two bytes, big-endian, at the front of a part.
 fn put_u16(value: u16, part: &mut [u8])
@@ -74,8 +69,8 @@ fn put_point(point: Point, part: &mut [u8])
     ensures { λ _. ⌜ now (part .exit) ≡ over (pointBytes point) (now (part .entry)) ⌝ }
 {
     put_u32(integers::unsigned(point.north), part);
-    put_u32(integers::unsigned(point.east), &mut part[EAST..]);
-    put_u32(integers::unsigned(point.down), &mut part[DOWN..]);
+    put_u32(integers::unsigned(point.east), &mut part[EAST_OFFSET..]);
+    put_u32(integers::unsigned(point.down), &mut part[DOWN_OFFSET..]);
 }
 
 // The mark, at the front of a file.
@@ -94,9 +89,9 @@ fn put_header(version: u16, serial: u32, size: u16, file: &mut [u8])
     ensures { λ _. ⌜ now (file .exit) ≡ over (headerBytes version serial size) (now (file .entry)) ⌝ }
 {
     put_mark(file);
-    put_u16(version, &mut file[VERSION..]);
-    put_u32(serial, &mut file[SERIAL..]);
-    put_u16(size, &mut file[AREA..]);
+    put_u16(version, &mut file[VERSION_OFFSET..]);
+    put_u32(serial, &mut file[SERIAL_OFFSET..]);
+    put_u16(size, &mut file[AREA_OFFSET..]);
 }
 
 // What stands before a record's body.
@@ -113,8 +108,8 @@ fn put_point_record(point: Point, at: usize, file: &mut [u8])
     requires { ⌜ at + 14 ≤ length (now file) ⌝ }
     ensures { λ _. ⌜ now (file .exit) ≡ splice at (recordBytes 1 (pointBytes point)) (now (file .entry)) ⌝ }
 {
-    put_head(POINT.kind, POINT_BODY, at, file);
-    let body = at + HEAD;
+    put_head(POINT_ROW.kind, POINT_BODY, at, file);
+    let body = at + HEAD_LENGTH;
     put_point(point, &mut file[body..]);
 }
 
@@ -124,7 +119,7 @@ fn put_value_record(kind: u8, value: u16, at: usize, file: &mut [u8])
     ensures { λ _. ⌜ now (file .exit) ≡ splice at (recordBytes kind (u16Bytes value)) (now (file .entry)) ⌝ }
 {
     put_head(kind, VALUE_BODY, at, file);
-    let body = at + HEAD;
+    let body = at + HEAD_LENGTH;
     put_u16(value, &mut file[body..]);
 }
 
@@ -135,10 +130,10 @@ fn put_radius(radius: u16, file: &mut [u8]) -> usize
     ensures { λ r. ⌜ r ≡ headerLength + length (radiusBytes radius) ⌝ }
 {
     if radius == 0 {
-        return HEADER;
+        return HEADER_LENGTH;
     }
-    put_value_record(RADIUS.kind, radius, HEADER, file);
-    HEADER + RADIUS_RECORD
+    put_value_record(RADIUS_ROW.kind, radius, HEADER_LENGTH, file);
+    HEADER_LENGTH + RADIUS_RECORD
 }
 
 // A point, and its course if it has one. The answer is the offset behind them.
@@ -150,7 +145,7 @@ fn put_place(point: Point, aimed: bool, course: u16, at: usize, file: &mut [u8])
     put_point_record(point, at, file);
     let next = at + POINT_RECORD;
     if aimed {
-        put_value_record(COURSE.kind, course, next, file);
+        put_value_record(COURSE_ROW.kind, course, next, file);
         return next + COURSE_RECORD;
     }
     next
@@ -224,7 +219,7 @@ pub fn file_length(head: Head) -> usize
     requires { ⌜ head .count ≤ mostPoints ⌝ }
     ensures { λ r. ⌜ ((version : ℕ) (ns es ds cs : List ℤ) → r ≡ length (fileOf version (seen head ns es ds cs))) ⌝ }
 {
-    HEADER + area_length(head)
+    HEADER_LENGTH + area_length(head)
 }
 
 // The file of a plan at a version, into the first bytes of a buffer. Nothing else of it changes.

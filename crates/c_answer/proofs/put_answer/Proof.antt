@@ -14,8 +14,8 @@ word-requires c κs = search needs
 kind-requires : tie.Need-kind-requires
 kind-requires c κs = search needs
 
-sense-requires : tie.Need-sense-requires
-sense-requires c κs = search needs
+command-sense-requires : tie.Need-command-sense-requires
+command-sense-requires c κs = search needs
 
 cast-t9 : tie.Need-cast-t9
 cast-t9 c = search needs
@@ -45,7 +45,7 @@ returns c =
     let f = p .before .before .before in
     let w = f .before .before in
     let s = w .before .before in (
-      simp (← f .flag .ensures, ← w .word2 .ensures, ← s .sense .ensures, ← s .before .kind .ensures, ← s .before .before .word .ensures)
+      simp (← f .flag .ensures, ← w .word2 .ensures, ← s .command-sense .ensures, ← s .before .kind .ensures, ← s .before .before .word .ensures)
           (p .put-words .ensures),
       answers,
     )
@@ -57,7 +57,7 @@ put-answer-spec =
     cast-t5
     word-requires
     kind-requires
-    sense-requires
+    command-sense-requires
     cast-t9
     word-requires-2
     cast-t11

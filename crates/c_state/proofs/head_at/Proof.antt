@@ -9,8 +9,8 @@ use Rattle.c_state.proofs.head_at.Tie as tie
 word-at-requires : tie.Need-word-at-requires
 word-at-requires c κs = search needs
 
-mode-of-requires : tie.Need-mode-of-requires
-mode-of-requires c κs = search needs
+mode-at-requires : tie.Need-mode-at-requires
+mode-at-requires c κs = search needs
 
 word-at-requires-2 : tie.Need-word-at-requires-2
 word-at-requires-2 c κs = search needs
@@ -37,7 +37,7 @@ returns c =
     let w = m .before in (
       (λ t. record {
         serial = s .word-at2 .ensures .0 t;
-        mode = (m .mode-of .ensures ∙ ap modeAt (w .word-at .ensures .0)) t;
+        mode = (m .mode-at .ensures ∙ ap modeAt (w .word-at .ensures .0)) t;
         radius = r .word-at3 .ensures .0 t;
         count = c .word-at4 .ensures .0 t;
       }),
@@ -49,7 +49,7 @@ head-at-spec =
     tie.close
     (tie.spec
     word-at-requires
-    mode-of-requires
+    mode-at-requires
     word-at-requires-2
     word-at-requires-3
     cast-t5

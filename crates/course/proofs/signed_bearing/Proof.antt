@@ -5,7 +5,7 @@ use native.Mathlib.Omega.{arith}
 use borrow.Author.Needs.{needs}
 use Rattle.integers.proofs.BoundLaws.{overflow}
 use Rattle.integers.proofs.ValueLaws.{value, via}
-use Rattle.course.specs.Bearing.{signedOf, bearingOf}
+use Rattle.course.specs.Bearing.{signedCourse, bearingOf}
 use Rattle.course.proofs.BearingLaws.{signed-low, signed-high, signed-carried}
 use Rattle.course.proofs.signed_bearing.Statement.{statement}
 use Rattle.course.proofs.signed_bearing.Tie as tie
@@ -20,8 +20,8 @@ cast-result c = search needs
 low : (c : tie.After-bearing) → c .bearing .result ≤ 4096
 low c = omega (arith, c .bearing .ensures .low)
 
-same : (c : tie.After-bearing) → signedOf (c .bearing .result) ≡ signedOf (bearingOf (c .before .args .v))
-same c = ap signedOf (c .bearing .ensures .value)
+same : (c : tie.After-bearing) → signedCourse (c .bearing .result) ≡ signedCourse (bearingOf (c .before .args .v))
+same c = ap signedCourse (c .bearing .ensures .value)
 
 returns : tie.Need-returns
 returns c =

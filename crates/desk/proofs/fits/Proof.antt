@@ -1,7 +1,7 @@
 -- `fits` compares two lengths. Assumes nothing.
 use mathlib.Core.Path.{sym}
 use borrow.Author.Tests.{le-leb, lt-leb}
-use Rattle.refusals.proofs.Bools.{both-on, both-off}
+use Rattle.conditions.proofs.Bools.{both-on, both-off}
 use Rattle.desk.specs.Calls.{noteFits}
 use Rattle.desk.proofs.fits.Statement.{statement}
 use Rattle.desk.proofs.fits.Tie as tie

@@ -2,7 +2,7 @@
 use mathlib.Core.Path.{_≡_, refl, sym, ap, _∙_}
 use borrow.Author.Needs.{needs}
 use Rattle.dubins.specs.declared.Circles.{Circles}
-use Rattle.dubins.specs.Cases.{circlesOf, tangentExists, caseExists, courseOf, pathOf}
+use Rattle.dubins.specs.Cases.{circlesOf, tangentExists, caseExists, straightCourse, pathOf}
 use Rattle.dubins.specs.Choice.{shorterOf}
 use Rattle.dubins.specs.Ways.{foundBy}
 use Rattle.dubins.proofs.ShortestLaws.{case-there, case-absent, straight-part}
@@ -77,7 +77,7 @@ returns c =
     let a = s .args in
     let R = a .ends .radius in
     let k = d .circles-at .result in
-    let θ = courseOf (a .case) R (w .straight .result) (k .v) in
+    let θ = straightCourse (a .case) R (w .straight .result) (k .v) in
     let e = case-there (a .ends) (a .case) k (w .straight .result) θ (sym (tested t) ∙ w .before .if1 .taken) (circles d) (w .straight .ensures .0) refl in
     let p = pathOf (a .ends) (a .case) k (w .straight .result) θ in
     (sym (ap (shorterOf (foundBy R (a .best))) e ∙ c .before .cannot-win .ensures (c .if2 .taken) R p (straight-part (a .ends) (a .case) k (w .straight .result) θ)), s .pre .0 .0)

@@ -15,8 +15,8 @@ level-requires c κs = search needs
 level-requires-2 : tie.Need-level-requires-2
 level-requires-2 c κs = search needs
 
-between-requires : tie.Need-between-requires
-between-requires c κs = search needs
+vector-between-requires : tie.Need-vector-between-requires
+vector-between-requires c κs = search needs
 
 mul-result : tie.Need-mul-result
 mul-result c = search needs
@@ -33,7 +33,7 @@ returns : tie.Need-returns
 unfolding farApart
 returns c =
     let d = c .before .before in
-    ap (leb _) (c .squared .ensures .0 ∙ ap squareOf (c .before .between .ensures .0 ∙ (λ i. minus (d .level2 .ensures .0 i) (d .before .level .ensures .0 i))))
+    ap (leb _) (c .squared .ensures .0 ∙ ap squareOf (c .before .vector-between .ensures .0 ∙ (λ i. minus (d .level2 .ensures .0 i) (d .before .level .ensures .0 i))))
 
 pub far-apart-spec : {M : Type 1} → statement M
 far-apart-spec =
@@ -41,7 +41,7 @@ far-apart-spec =
     (tie.spec
     level-requires
     level-requires-2
-    between-requires
+    vector-between-requires
     mul-result
     mul-result-2
     squared-requires

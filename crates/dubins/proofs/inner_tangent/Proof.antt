@@ -1,8 +1,8 @@
 -- `inner_tangent` gives what the course of RSL or LSR is the bearing of. Assumes nothing.
 use Prim.Native.Nat.{_*_, _≤_}
 use borrow.Author.Needs.{needs}
+use Rattle.conditions.specs.Choose.{choose}
 use Rattle.integers.specs.Bounds.{Within}
-use Rattle.integers.specs.Choose.{choose}
 use Rattle.integers.proofs.BoundLaws.{overflow}
 use Rattle.integers.proofs.ValueLaws.{value, is}
 use Rattle.course.specs.Vectors.{Near}

@@ -2,7 +2,7 @@
 use mathlib.Core.Path.{sym, ap, _∙_}
 use mathlib.Core.Bool.{not}
 use borrow.Author.Needs.{needs}
-use Rattle.integers.proofs.ChooseLaws.{choose-true, choose-false}
+use Rattle.conditions.proofs.ChooseLaws.{choose-true, choose-false}
 use Rattle.dubins.specs.Cases.{startsRight, endsRight, sameSide}
 use Rattle.dubins.proofs.same_side.Statement.{statement}
 use Rattle.dubins.proofs.same_side.Tie as tie

@@ -4,7 +4,7 @@ use Prim.Native.Nat.{ℕ, _≤_}
 use native.Mathlib.Nat.{mul-le-mul}
 use native.Mathlib.Omega.{arith}
 use borrow.Author.Needs.{needs}
-use Rattle.integers.specs.Choose.{choose}
+use Rattle.conditions.specs.Choose.{choose}
 use Rattle.dubins.specs.Cases.{straightOf}
 use Rattle.dubins.proofs.PathBounds.{straight-le}
 use Rattle.dubins.proofs.ExistenceLaws.{inner-apart}

@@ -3,10 +3,10 @@ use mathlib.Core.Path.{sym, _∙_}
 use native.Mathlib.Omega.{arith}
 use lib.IntN.{pos, _-ℤ_}
 use borrow.Author.Needs.{needs}
+use Rattle.conditions.proofs.ChooseLaws.{choose-true, choose-false}
 use Rattle.integers.specs.Wrap.{wrapOf}
-use Rattle.integers.proofs.ChooseLaws.{choose-true, choose-false}
 use Rattle.integers.proofs.WrapLaws.{wrap-sub}
-use Rattle.dubins.specs.Cases.{turnOf}
+use Rattle.dubins.specs.Cases.{arcTurn}
 use Rattle.dubins.proofs.turn.Statement.{statement}
 use Rattle.dubins.proofs.turn.Tie as tie
 
@@ -23,13 +23,13 @@ sub-result-2 : tie.Need-sub-result-2
 sub-result-2 c = search needs
 
 returns : tie.Need-returns
-unfolding turnOf
+unfolding arcTurn
 returns c =
     let s = c .before .args in
     (sym (choose-true _ (wrapOf (pos (s .to) -ℤ pos (s .from))) (wrapOf (pos (s .from) -ℤ pos (s .to))) (c .if1 .taken) ∙ wrap-sub (s .to) (s .from) (omega arith)), omega arith)
 
 returns-2 : tie.Need-returns-2
-unfolding turnOf
+unfolding arcTurn
 returns-2 c =
     let s = c .before .args in
     (sym (choose-false _ (wrapOf (pos (s .to) -ℤ pos (s .from))) (wrapOf (pos (s .from) -ℤ pos (s .to))) (c .if1 .left) ∙ wrap-sub (s .from) (s .to) (omega arith)), omega arith)

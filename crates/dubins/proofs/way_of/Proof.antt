@@ -1,7 +1,7 @@
 -- `way_of` gives the way of a case, with its length. Assumes nothing.
 use native.Mathlib.Omega.{arith}
 use borrow.Author.Needs.{needs}
-use Rattle.dubins.specs.Cases.{lengthOf, pathOf}
+use Rattle.dubins.specs.Cases.{caseLength, pathOf}
 use Rattle.dubins.specs.Ways.{pathAlong}
 use Rattle.dubins.proofs.way_of.Statement.{statement}
 use Rattle.dubins.proofs.way_of.Tie as tie
@@ -28,7 +28,7 @@ add-length : tie.Need-add-length
 add-length c = search needs
 
 returns : tie.Need-returns
-unfolding pathAlong pathOf lengthOf
+unfolding pathAlong pathOf caseLength
 returns c =
     let t = c .before in
     let u = t .before .before in

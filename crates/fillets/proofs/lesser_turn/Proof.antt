@@ -3,7 +3,7 @@ use Prim.Native.Nat.{_+_, _-_, _%_}
 use native.Mathlib.Omega.{arith}
 use borrow.Author.Needs.{needs}
 use borrow.Author.Tests.{le-leb, lt-leb}
-use Rattle.integers.specs.Choose.{choose}
+use Rattle.conditions.specs.Choose.{choose}
 use Rattle.integers.proofs.WrapLaws.{wrap-sub}
 use Rattle.fillets.specs.Corners.{lesserTurn}
 use Rattle.fillets.proofs.lesser_turn.Statement.{statement}

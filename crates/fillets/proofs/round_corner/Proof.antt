@@ -3,7 +3,7 @@ use mathlib.Core.Path.{_≡_, sym, _∙_, subst}
 use Prim.Native.Nat.{ℕ, _≤_}
 use borrow.Author.Needs.{needs}
 use Rattle.course.specs.Bearing.{bearingOf}
-use Rattle.fillets.specs.Corners.{lesserTurn, turnBetween, turnOf, tangentOf, cornerOf}
+use Rattle.fillets.specs.Corners.{lesserTurn, turnBetween, cornerTurn, tangentOf, cornerOf}
 use Rattle.fillets.proofs.round_corner.Statement.{statement}
 use Rattle.fillets.proofs.round_corner.Tie as tie
 
@@ -25,8 +25,8 @@ lesser-turn-requires c κs = search needs
 -- the turn that was worked out is the turn at the point
 turn-is : (c : tie.After-lesser-turn) →
     let s = c .before .before .before .before .before .args in
-    c .lesser-turn .result ≡ turnOf (s .before) (s .point) (s .after)
-unfolding turnBetween turnOf
+    c .lesser-turn .result ≡ cornerTurn (s .before) (s .point) (s .after)
+unfolding turnBetween cornerTurn
 turn-is c =
     let k = c .before in
     let j = k .before in

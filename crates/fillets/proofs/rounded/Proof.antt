@@ -15,8 +15,8 @@ use Rattle.fillets.proofs.rounded.Tie as tie
 offset-requires : tie.Need-offset-requires
 offset-requires c κs = search needs
 
-between-requires : tie.Need-between-requires
-between-requires c κs = search needs
+vector-between-requires : tie.Need-vector-between-requires
+vector-between-requires c κs = search needs
 
 offset-requires-2 : tie.Need-offset-requires-2
 offset-requires-2 c κs = search needs
@@ -34,7 +34,7 @@ sum-requires-2 : tie.Need-sum-requires-2
 sum-requires-2 c κs =
     let z = c .before .before .before .before in
     let s = z .before .before in
-    let e = z .between .ensures .0 ∙ (λ i. minus (s .args .point) (z .before .offset .ensures .0 i)) in (
+    let e = z .vector-between .ensures .0 ∙ (λ i. minus (s .args .point) (z .before .offset .ensures .0 i)) in (
       near-le (leb→le 550280 1000000 tt) (subst (Near 550280) (sym e) (z1-near (s .args .point) (s .args .j) (s .args .t) (s .pre .0) (s .pre .1 .1 .1))),
       near-le (le-trans (s .pre .1 .1 .0) (leb→le 10000 1000000 tt)) (c .offset3 .ensures .1),
     )
@@ -46,7 +46,7 @@ returns c =
     let z = d .before .before in
     let s = z .before .before in (
       corner-carried
-          (simp (c .sum2 .ensures .0, c .before .offset3 .ensures .0, c .before .before .sideways .ensures .0, d .sum .ensures .0, d .before .offset2 .ensures .0, z .between .ensures .0, z .before .offset .ensures .0))
+          (simp (c .sum2 .ensures .0, c .before .offset3 .ensures .0, c .before .before .sideways .ensures .0, d .sum .ensures .0, d .before .offset2 .ensures .0, z .vector-between .ensures .0, z .before .offset .ensures .0))
           (rounded-is (s .args .point) (s .args .j) (s .args .t) (s .pre .0) (s .pre .1 .1 .1) (s .args .k) (s .args .right) (s .args .radius) (s .pre .1 .1 .0)),
       hand-corners,
     )
@@ -56,7 +56,7 @@ rounded-spec =
     tie.close
     (tie.spec
     offset-requires
-    between-requires
+    vector-between-requires
     offset-requires-2
     sum-requires
     sideways-requires

@@ -1,7 +1,7 @@
 -- `turn_at` gives the turn at a point. Assumes nothing.
 use mathlib.Core.Path.{_∙_}
 use borrow.Author.Needs.{needs}
-use Rattle.fillets.specs.Corners.{turnBetween, turnOf}
+use Rattle.fillets.specs.Corners.{turnBetween, cornerTurn}
 use Rattle.fillets.proofs.turn_at.Statement.{statement}
 use Rattle.fillets.proofs.turn_at.Tie as tie
 
@@ -15,7 +15,7 @@ turn-between-requires : tie.Need-turn-between-requires
 turn-between-requires c κs = search needs
 
 returns : tie.Need-returns
-unfolding turnOf
+unfolding cornerTurn
 returns c =
     (c .turn-between .ensures .0 ∙ (λ i. turnBetween (c .before .before .level-leg .ensures .0 i) (c .before .level-leg2 .ensures .0 i)), c .turn-between .ensures .1)
 

@@ -3,7 +3,7 @@ use mathlib.Core.Path.{_≡_, sym, ap, _∙_}
 use mathlib.Core.Bool.{Bool}
 use borrow.Author.Tests.{eq-eqb, ne-eqb, lt-ltb, le-ltb}
 use borrow.Author.Needs.{needs}
-use Rattle.integers.specs.Choose.{choose}
+use Rattle.conditions.specs.Choose.{choose}
 use Rattle.guidance.specs.Guide.{circleGuide, dubinsGuide}
 use Rattle.guidance.proofs.dubins_guide.Statement.{statement}
 use Rattle.guidance.proofs.dubins_guide.Tie as tie

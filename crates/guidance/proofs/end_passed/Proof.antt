@@ -3,7 +3,7 @@ use mathlib.Core.Path.{_≡_, sym, ap, _∙_}
 use native.Mathlib.Omega.{arith}
 use borrow.Author.Tests.{eq-eqb, ne-eqb}
 use borrow.Author.Needs.{needs}
-use Rattle.integers.specs.Choose.{choose}
+use Rattle.conditions.specs.Choose.{choose}
 use Rattle.course.specs.declared.Vector.{Vector}
 use Rattle.guidance.specs.Guide.{shortOf, reachedOf, endPassed}
 use Rattle.guidance.proofs.end_passed.Statement.{statement}

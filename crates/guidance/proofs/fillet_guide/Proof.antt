@@ -3,7 +3,7 @@ use mathlib.Core.Path.{_≡_, sym, ap, _∙_}
 use lib.Dec.{eqb}
 use borrow.Author.Tests.{eq-eqb, ne-eqb}
 use borrow.Author.Needs.{needs}
-use Rattle.integers.specs.Choose.{choose}
+use Rattle.conditions.specs.Choose.{choose}
 use Rattle.fillets.specs.declared.Corner.{Corner}
 use Rattle.guidance.specs.Guide.{filletLine, filletCircle, filletGuide}
 use Rattle.guidance.proofs.fillet_guide.Statement.{statement}

@@ -13,16 +13,16 @@ use Rattle.guidance.proofs.from.Tie as tie
 level-requires : tie.Need-level-requires
 level-requires c κs = search needs
 
-between-requires : tie.Need-between-requires
-between-requires c κs = search needs
+vector-between-requires : tie.Need-vector-between-requires
+vector-between-requires c κs = search needs
 
 returns : tie.Need-returns
 unfolding fromOf
 returns c =
     let s = c .before .before in
     let l = c .before .level in
-    let e = c .between .ensures .0 ∙ ap (λ (v : Vector). minus v (s .args .start)) (l .ensures .0) in
-    carried e (subst (Near 1500000) (sym (c .between .ensures .0) ∙ e) (minus-near (l .result) (s .args .start) (l .ensures .1) (s .pre .0)))
+    let e = c .vector-between .ensures .0 ∙ ap (λ (v : Vector). minus v (s .args .start)) (l .ensures .0) in
+    carried e (subst (Near 1500000) (sym (c .vector-between .ensures .0) ∙ e) (minus-near (l .result) (s .args .start) (l .ensures .1) (s .pre .0)))
 
 pub from-spec : {M : Type 1} → statement M
-from-spec = tie.close (tie.spec level-requires between-requires returns)
+from-spec = tie.close (tie.spec level-requires vector-between-requires returns)

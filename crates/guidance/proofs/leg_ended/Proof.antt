@@ -4,8 +4,8 @@ use lib.IntN.{pos}
 use lib.Signed.{leZ}
 use mir.Syntax.{w64}
 use borrow.Author.Needs.{needs}
+use Rattle.conditions.proofs.ChooseLaws.{choose-true, choose-false}
 use Rattle.integers.proofs.BoundLaws.{kept}
-use Rattle.integers.proofs.ChooseLaws.{choose-true, choose-false}
 use Rattle.plane.specs.Half.{dot3Of}
 use Rattle.guidance.specs.Guide.{pastOf, legEnded}
 use Rattle.guidance.proofs.leg_ended.Statement.{statement}

@@ -2,7 +2,7 @@
 use mathlib.Core.Path.{_≡_, sym, ap, _∙_}
 use borrow.Author.Tests.{eq-eqb, ne-eqb}
 use borrow.Author.Needs.{needs}
-use Rattle.integers.specs.Choose.{choose}
+use Rattle.conditions.specs.Choose.{choose}
 use Rattle.guidance.specs.Guide.{startPassed}
 use Rattle.guidance.proofs.start_passed.Statement.{statement}
 use Rattle.guidance.proofs.start_passed.Tie as tie

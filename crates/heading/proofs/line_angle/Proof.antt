@@ -10,7 +10,7 @@ use Rattle.integers.proofs.BoundLaws.{bound, kept, passed-on}
 use Rattle.integers.proofs.ValueLaws.{value, via}
 use Rattle.course.specs.Bearing.{signedBearingOf}
 use Rattle.course.proofs.VectorLaws.{vector}
-use Rattle.plane.specs.Level.{lengthOf}
+use Rattle.plane.specs.Level.{vectorLength}
 use Rattle.heading.specs.Heading.{lineAngle}
 use Rattle.heading.proofs.line_angle.Statement.{statement}
 use Rattle.heading.proofs.line_angle.Tie as tie
@@ -39,7 +39,7 @@ returns c =
     let l = c .before .before .length in
     let x = c .before .across in
     let h : 500 * l .result ≤ 1414213500 = omega (arith, l .ensures .1) in
-    let n : toZ w64 (500 * l .result) ≡ pos (500 * lengthOf (s .q)) = via (ap (λ (m : ℕ). pos (500 * m)) (l .ensures .0)) (search value depth 20 fits 5000) in
+    let n : toZ w64 (500 * l .result) ≡ pos (500 * vectorLength (s .q)) = via (ap (λ (m : ℕ). pos (500 * m)) (l .ensures .0)) (search value depth 20 fits 5000) in
     let e = kept w64 (x .ensures .1) tt ∙ x .ensures .0 in
     passed-on (c .signed-bearing .ensures .0 ∙ ap signedBearingOf (vector n e), c .signed-bearing .ensures .1 .0) tt
 

@@ -4,7 +4,7 @@ use Prim.Native.Nat.{ℕ, _≤_}
 use native.Mathlib.Omega.{arith}
 use lib.IntN.{pos, _+ℤ_, _-ℤ_}
 use borrow.Author.Needs.{needs}
-use Rattle.integers.specs.Choose.{choose}
+use Rattle.conditions.specs.Choose.{choose}
 use Rattle.integers.specs.Wrap.{wrapOf}
 use Rattle.integers.proofs.BoundLaws.{overflow}
 use Rattle.integers.proofs.ValueLaws.{value, is}

@@ -1,7 +1,7 @@
 -- `bits_of` gives bitsFrom, and asks for bits only of what was compared, which is no NaN. Assumes nothing.
 use mathlib.Core.Path.{sym}
+use Rattle.conditions.proofs.ChooseLaws.{choose-true, choose-false}
 use Rattle.integers.specs.Floats.{bitsFrom}
-use Rattle.integers.proofs.ChooseLaws.{choose-true, choose-false}
 use Rattle.integers.proofs.FloatLaws.{compared}
 use Rattle.integers.proofs.bits_of.Statement.{statement}
 use Rattle.integers.proofs.bits_of.Tie as tie

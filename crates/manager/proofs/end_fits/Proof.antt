@@ -1,6 +1,6 @@
 -- `end_fits` decides whether a finished flight is at its end. Assumes nothing.
 use borrow.Author.Needs.{needs}
-use Rattle.integers.proofs.ChooseLaws.{choose-true, choose-false}
+use Rattle.conditions.proofs.ChooseLaws.{choose-true, choose-false}
 use Rattle.manager.specs.State.{endFits}
 use Rattle.manager.proofs.end_fits.Statement.{statement}
 use Rattle.manager.proofs.end_fits.Tie as tie

@@ -1,6 +1,6 @@
 -- `fillet_guide_at` gives the guidance of fillets on a leg. Assumes nothing.
 use borrow.Author.Needs.{needs}
-use Rattle.integers.specs.Choose.{choose}
+use Rattle.conditions.specs.Choose.{choose}
 use Rattle.manager.proofs.fillet_guide_at.Statement.{statement}
 use Rattle.manager.proofs.fillet_guide_at.Tie as tie
 

@@ -1,6 +1,6 @@
 -- `line_guide_at` gives the guidance of lines on a leg. Assumes nothing.
 use borrow.Author.Needs.{needs}
-use Rattle.integers.specs.Choose.{choose}
+use Rattle.conditions.specs.Choose.{choose}
 use Rattle.manager.proofs.line_guide_at.Statement.{statement}
 use Rattle.manager.proofs.line_guide_at.Tie as tie
 

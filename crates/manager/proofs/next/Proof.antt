@@ -1,7 +1,7 @@
 -- `next` gives how far a plan is flown after a fix. Assumes nothing.
 use borrow.Author.Tests.{lt-ltb, le-ltb}
 use borrow.Author.Needs.{needs}
-use Rattle.integers.specs.Choose.{choose}
+use Rattle.conditions.specs.Choose.{choose}
 use Rattle.manager.specs.Step.{nextOf}
 use Rattle.manager.proofs.next.Statement.{statement}
 use Rattle.manager.proofs.next.Tie as tie

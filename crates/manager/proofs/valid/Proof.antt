@@ -1,7 +1,7 @@
 -- `valid` decides refusal 14. Assumes nothing.
 use mathlib.Core.Path.{sym, _∙_}
 use borrow.Author.Needs.{needs}
-use Rattle.refusals.proofs.Bools.{both-on, both-off}
+use Rattle.conditions.proofs.Bools.{both-on, both-off}
 use Rattle.plan.proofs.LimitLaws.{told}
 use Rattle.manager.specs.State.{validOf}
 use Rattle.manager.proofs.StateLaws.{valid-means}

@@ -7,8 +7,8 @@ use Prim.Native.Nat.{ℕ, _-_, _≤_}
 use lib.Dec.{eqb}
 use lib.IntN.{ℤ}
 use borrow.Author.Tests.{eq-eqb, ne-eqb}
+use Rattle.conditions.proofs.Bools.{both-on}
 use Rattle.refusals.specs.Sweep.{every}
-use Rattle.refusals.proofs.Bools.{both-on}
 use Rattle.refusals.proofs.SweepLaws.{passing, passing-all}
 use Rattle.plan.specs.Places.{placeAt}
 use Rattle.plan.specs.Rules.{pairAt, pairsOf}

@@ -1,6 +1,6 @@
 -- `number_places_fit` decides whether the number of every place fits: the used ones, then the others. Assumes nothing.
 use mathlib.Core.Path.{sym, _∙_}
-use Rattle.refusals.proofs.Bools.{both-on, both-off}
+use Rattle.conditions.proofs.Bools.{both-on, both-off}
 use Rattle.plan.proofs.StandLaws.{number-parts}
 use borrow.Author.Needs.{needs}
 use Rattle.plan.proofs.number_places_fit.Statement.{statement}

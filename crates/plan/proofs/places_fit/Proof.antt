@@ -1,6 +1,6 @@
 -- `places_fit` decides whether every place of a plan fits. Assumes nothing.
 use mathlib.Core.Path.{sym, ap, _∙_}
-use Rattle.refusals.proofs.Bools.{both-on, both-off}
+use Rattle.conditions.proofs.Bools.{both-on, both-off}
 use Rattle.plan.specs.declared.Plan.{Plan}
 use Rattle.plan.specs.Places.{seen}
 use Rattle.plan.specs.Stands.{givenOf}

@@ -1,6 +1,6 @@
 -- `point_places_fit` decides whether the point of every place fits. Assumes nothing.
 use mathlib.Core.Path.{sym, _∙_}
-use Rattle.refusals.proofs.Bools.{both-on, both-off}
+use Rattle.conditions.proofs.Bools.{both-on, both-off}
 use Rattle.plan.proofs.StandLaws.{points-parts}
 use borrow.Author.Needs.{needs}
 use Rattle.plan.proofs.point_places_fit.Statement.{statement}

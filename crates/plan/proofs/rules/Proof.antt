@@ -2,7 +2,7 @@
 use mathlib.Core.Path.{sym, ap, _∙_}
 use Rattle.refusals.specs.Outcome.{refusalOf, check}
 use Rattle.plan.specs.declared.Plan.{Plan}
-use Rattle.plan.specs.Places.{pointOf, courseOf, seen}
+use Rattle.plan.specs.Places.{planPoint, planCourse, seen}
 use Rattle.plan.proofs.RuleLaws.{rules-few, rules-many, rules-courses, rules-geometry}
 use Rattle.plan.proofs.StandLaws.{placed-of, aiming-of}
 use native.Mathlib.Omega.{arith}
@@ -21,7 +21,7 @@ unfolding refusalOf check
 returns c =
     let s = c .before .before in
     let p = plan s in
-    c .failed .ensures .0 ∙ sym (ap refusalOf (rules-few (p .head .mode) (p .head .radius) (s .args .given) (p .head .count) (pointOf p) (courseOf p) (c .before .if1 .taken)))
+    c .failed .ensures .0 ∙ sym (ap refusalOf (rules-few (p .head .mode) (p .head .radius) (s .args .given) (p .head .count) (planPoint p) (planCourse p) (c .before .if1 .taken)))
 
 failed-requires-2 : tie.Need-failed-requires-2
 failed-requires-2 c κs = search needs
@@ -31,7 +31,7 @@ unfolding refusalOf check
 returns-2 c =
     let s = c .before .before .before in
     let p = plan s in
-    c .failed2 .ensures .0 ∙ sym (ap refusalOf (rules-many (p .head .mode) (p .head .radius) (s .args .given) (p .head .count) (pointOf p) (courseOf p) (c .before .before .if1 .left) (c .before .if2 .taken)))
+    c .failed2 .ensures .0 ∙ sym (ap refusalOf (rules-many (p .head .mode) (p .head .radius) (s .args .given) (p .head .count) (planPoint p) (planCourse p) (c .before .before .if1 .left) (c .before .if2 .taken)))
 
 courses-fit-requires : tie.Need-courses-fit-requires
 courses-fit-requires c κs = search needs
@@ -57,7 +57,7 @@ returns-3 c =
     let a = b .before in
     let s = a .before in
     let p = plan s in
-    c .geometry .ensures ∙ sym (ap refusalOf (rules-geometry (p .head .mode) (p .head .radius) (s .args .given) (p .head .count) (pointOf p) (courseOf p) (a .if1 .left) (b .if2 .left) (sym (f .courses-fit .ensures) ∙ c .before .if3 .taken)))
+    c .geometry .ensures ∙ sym (ap refusalOf (rules-geometry (p .head .mode) (p .head .radius) (s .args .given) (p .head .count) (planPoint p) (planCourse p) (a .if1 .left) (b .if2 .left) (sym (f .courses-fit .ensures) ∙ c .before .if3 .taken)))
 
 failed-requires-3 : tie.Need-failed-requires-3
 failed-requires-3 c κs = search needs
@@ -70,7 +70,7 @@ returns-4 c =
     let a = b .before in
     let s = a .before in
     let p = plan s in
-    c .failed3 .ensures .0 ∙ sym (ap refusalOf (rules-courses (p .head .mode) (p .head .radius) (s .args .given) (p .head .count) (pointOf p) (courseOf p) (a .if1 .left) (b .if2 .left) (sym (f .courses-fit .ensures) ∙ c .before .if3 .left)))
+    c .failed3 .ensures .0 ∙ sym (ap refusalOf (rules-courses (p .head .mode) (p .head .radius) (s .args .given) (p .head .count) (planPoint p) (planCourse p) (a .if1 .left) (b .if2 .left) (sym (f .courses-fit .ensures) ∙ c .before .if3 .left)))
 
 pub rules-spec : {M : Type 1} → statement M
 rules-spec =

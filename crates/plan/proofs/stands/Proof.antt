@@ -3,8 +3,8 @@ use mathlib.Core.Path.{_≡_, sym, ap, _∙_}
 use mathlib.Core.Bool.{Bool, true, false}
 use Prim.Native.Nat.{ℕ}
 use lib.Dec.{eqb}
+use Rattle.conditions.proofs.Bools.{clash}
 use Rattle.refusals.specs.Outcome.{refusalOf}
-use Rattle.refusals.proofs.Bools.{clash}
 use Rattle.plan.specs.declared.Plan.{Plan}
 use Rattle.plan.specs.Limits.{radiusFits}
 use Rattle.plan.specs.Places.{seen}

@@ -8,10 +8,10 @@ use mathlib.Core.Bool.{Bool, true, false, not}
 use mathlib.Core.List.{List}
 use Prim.Native.Nat.{ℕ, _-_, _≤_}
 use lib.IntN.{ℤ}
+use Rattle.conditions.proofs.Bools.{both-on}
 use Rattle.refusals.specs.Sweep.{every}
-use Rattle.refusals.proofs.Bools.{both-on}
 use Rattle.refusals.proofs.SweepLaws.{passing, passing-all}
-use Rattle.plan.specs.Limits.{betweenOf}
+use Rattle.plan.specs.Limits.{signedBetween}
 use Rattle.plan.specs.Places.{numberAt}
 use Rattle.plan.proofs.SweptLaws.{counted-next}
 use borrow.Author.Needs.{needs}
@@ -20,7 +20,7 @@ use Rattle.plan.proofs.values_between.Statement.{statement}
 use Rattle.plan.proofs.values_between.Tie as tie
 
 abbrev fits : List ℤ → ℕ → ℕ → ℕ → Bool
-fits values low high i = betweenOf low high (numberAt values i)
+fits values low high i = signedBetween low high (numberAt values i)
 
 -- what a negated test told
 unnot : (b t : Bool) → not b ≡ t → b ≡ not t
@@ -36,14 +36,14 @@ abbrev μ-loop : tie.MeasureT-loop
 loop-holds : tie.Need-loop-holds Inv-loop μ-loop
 loop-holds c = (omega arith, sym (both-on _ _ refl))
 
-mul-between : tie.Need-mul-between Inv-loop μ-loop
-mul-between c = search needs
+mul-signed-between : tie.Need-mul-signed-between Inv-loop μ-loop
+mul-signed-between c = search needs
 
-shared-slice-copy-out-between : tie.Need-shared-slice-copy-out-between Inv-loop μ-loop
-shared-slice-copy-out-between c = search needs
+shared-slice-copy-out-signed-between : tie.Need-shared-slice-copy-out-signed-between Inv-loop μ-loop
+shared-slice-copy-out-signed-between c = search needs
 
-between-requires : tie.Need-between-requires Inv-loop μ-loop
-between-requires c κs = search needs
+signed-between-requires : tie.Need-signed-between-requires Inv-loop μ-loop
+signed-between-requires c κs = search needs
 
 add-over : tie.Need-add-over Inv-loop μ-loop
 add-over c = omega arith
@@ -62,10 +62,10 @@ loop-again c =
     let f = fits (s .values .now) (s .low) (s .high) in
     let whole = every f (s .to - s .from) (s .from) in
     let z : toZ w32 (ofZ w32 (numberAt (s .values .now) (l .i))) ≡ numberAt (s .values .now) (l .i) = search needs in
-    let e = c .before .between .ensures ∙ ap (betweenOf (s .low) (s .high)) z in
+    let e = c .before .signed-between .ensures ∙ ap (signedBetween (s .low) (s .high)) z in
     elim (c .if1 .came) [
-      | inl k ↦ counted-next f whole (l .over) (c .if1 .over) 1 (s .to) (l .i) (k .1) (omega arith) (b .loop-test .taken) false (sym e ∙ unnot (c .before .between .result) true (k .0 .taken)) refl (l .inv)
-      | inr k ↦ counted-next f whole (l .over) (c .if1 .over) 0 (s .to) (l .i) (omega (arith, k .1)) (omega arith) (b .loop-test .taken) true (sym e ∙ unnot (c .before .between .result) false (k .0 .left)) refl (l .inv)
+      | inl k ↦ counted-next f whole (l .over) (c .if1 .over) 1 (s .to) (l .i) (k .1) (omega arith) (b .loop-test .taken) false (sym e ∙ unnot (c .before .signed-between .result) true (k .0 .taken)) refl (l .inv)
+      | inr k ↦ counted-next f whole (l .over) (c .if1 .over) 0 (s .to) (l .i) (omega (arith, k .1)) (omega arith) (b .loop-test .taken) true (sym e ∙ unnot (c .before .signed-between .result) false (k .0 .left)) refl (l .inv)
     ]
 
 returns : tie.Need-returns Inv-loop μ-loop
@@ -81,9 +81,9 @@ values-between-spec =
     Inv-loop
     μ-loop
     loop-holds
-    mul-between
-    shared-slice-copy-out-between
-    between-requires
+    mul-signed-between
+    shared-slice-copy-out-signed-between
+    signed-between-requires
     add-over
     add-i
     loop-less

@@ -3,7 +3,7 @@ use mathlib.Core.Path.{_≡_, ap, _∙_}
 use native.Mathlib.Omega.{arith}
 use borrow.Author.Needs.{needs}
 use Rattle.integers.specs.Root.{rootOf}
-use Rattle.plane.specs.Level.{lengthOf}
+use Rattle.plane.specs.Level.{vectorLength}
 use Rattle.plane.proofs.LevelLaws.{length-le}
 use Rattle.plane.proofs.length.Statement.{statement}
 use Rattle.plane.proofs.length.Tie as tie
@@ -15,10 +15,10 @@ root-requires : tie.Need-root-requires
 root-requires c κs = search needs
 
 returns : tie.Need-returns
-unfolding lengthOf
+unfolding vectorLength
 returns c =
     let s = c .before .before in
-    let e : c .root .result ≡ lengthOf (s .args .v) = c .root .ensures .0 ∙ ap rootOf (c .before .squared .ensures .0) in
+    let e : c .root .result ≡ vectorLength (s .args .v) = c .root .ensures .0 ∙ ap rootOf (c .before .squared .ensures .0) in
     (e, omega (arith, e, length-le (s .args .v) (s .pre)))
 
 pub length-spec : {M : Type 1} → statement M

@@ -4,10 +4,10 @@ use Prim.Native.Nat.{_+_, _-_, _%_}
 use native.Mathlib.Omega.{arith}
 use lib.IntN.{pos, _+ℤ_, _-ℤ_}
 use borrow.Author.Needs.{needs}
-use Rattle.integers.specs.Choose.{choose}
+use Rattle.conditions.specs.Choose.{choose}
+use Rattle.conditions.proofs.ChooseLaws.{choose-true, choose-false}
 use Rattle.integers.specs.Wrap.{wrapOf}
 use Rattle.integers.proofs.WrapLaws.{wrap-add, wrap-sub}
-use Rattle.integers.proofs.ChooseLaws.{choose-true, choose-false}
 use Rattle.plane.specs.Level.{sidewaysOf}
 use Rattle.plane.proofs.sideways.Statement.{statement}
 use Rattle.plane.proofs.sideways.Tie as tie

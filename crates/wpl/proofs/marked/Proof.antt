@@ -2,7 +2,7 @@
 use mathlib.Core.Path.{sym, _∙_}
 use borrow.Author.Tests.{eq-eqb, ne-eqb}
 use borrow.Author.Needs.{needs}
-use Rattle.refusals.proofs.Bools.{both-on, both-off}
+use Rattle.conditions.proofs.Bools.{both-on, both-off}
 use Rattle.wpl.specs.Header.{markedOf}
 use Rattle.wpl.proofs.marked.Statement.{statement}
 use Rattle.wpl.proofs.marked.Tie as tie

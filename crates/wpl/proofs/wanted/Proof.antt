@@ -1,7 +1,7 @@
 -- `wanted` asks for a note, and for the last one to go. Assumes nothing.
 use mathlib.Core.Path.{sym}
 use borrow.Author.Tests.{eq-eqb, ne-eqb}
-use Rattle.refusals.proofs.Bools.{both-on, both-off}
+use Rattle.conditions.proofs.Bools.{both-on, both-off}
 use Rattle.wpl.specs.Note.{wantedOf}
 use Rattle.wpl.proofs.wanted.Statement.{statement}
 use Rattle.wpl.proofs.wanted.Tie as tie

@@ -1,4 +1,4 @@
--- `between` makes the two tests of the definition, in its order. Assumes nothing.
+-- `signed_between` makes the two tests of the definition, in its order. Assumes nothing.
 use mathlib.Core.Path.{_≡_, sym, _∙_}
 use mathlib.Core.Bool.{Bool, true}
 use Prim.Native.Nat.{_≤_}
@@ -6,13 +6,13 @@ use native.Mathlib.Omega.{arith}
 use lib.IntN.{pos, negℤ}
 use lib.Signed.{leZ}
 use borrow.Author.Needs.{needs}
+use Rattle.conditions.specs.Both.{both}
+use Rattle.conditions.proofs.Bools.{both-on, both-off}
 use Rattle.integers.proofs.BoundLaws.{overflow}
 use Rattle.integers.proofs.ValueLaws.{tested, typed}
-use Rattle.refusals.specs.Sweep.{both}
-use Rattle.refusals.proofs.Bools.{both-on, both-off}
-use Rattle.plan.specs.Limits.{betweenOf}
-use Rattle.plan.proofs.between.Statement.{statement}
-use Rattle.plan.proofs.between.Tie as tie
+use Rattle.plan.specs.Limits.{signedBetween}
+use Rattle.plan.proofs.signed_between.Statement.{statement}
+use Rattle.plan.proofs.signed_between.Tie as tie
 
 cast-wide : tie.Need-cast-wide
 cast-wide c = search (overflow, typed) depth 20 fits 5000
@@ -37,7 +37,7 @@ last : {r : Bool} (a b : Bool) → a ≡ true → r ≡ b → r ≡ both a b
 last a b t e = e ∙ sym (both-on a b t)
 
 returns : tie.Need-returns
-unfolding betweenOf
+unfolding signedBetween
 returns c =
     let s = c .before .args in
     let l : s .low ≤ 4294967295 = omega arith in
@@ -46,12 +46,12 @@ returns c =
     last low (leZ (s .z) (pos (s .high))) (read (c .if1 .taken) low (search (tested, typed) depth 20 fits 5000)) (search (tested, typed) depth 20 fits 5000)
 
 returns-2 : tie.Need-returns-2
-unfolding betweenOf
+unfolding signedBetween
 returns-2 c =
     let s = c .before .args in
     let l : s .low ≤ 4294967295 = omega arith in
     let low = leZ (negℤ (pos (s .low))) (s .z) in
     sym (both-off low (leZ (s .z) (pos (s .high))) (read (c .if1 .left) low (search (tested, typed) depth 20 fits 5000)))
 
-pub between-spec : {M : Type 1} → statement M
-between-spec = tie.close (tie.spec cast-wide cast-if1 sub-if1 cast-result returns returns-2)
+pub signed-between-spec : {M : Type 1} → statement M
+signed-between-spec = tie.close (tie.spec cast-wide cast-if1 sub-if1 cast-result returns returns-2)

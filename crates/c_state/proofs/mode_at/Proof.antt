@@ -1,9 +1,9 @@
--- `mode_of` gives the mode of a word. Assumes nothing.
+-- `mode_at` gives the mode of a word. Assumes nothing.
 use borrow.Author.Tests.{eq-eqb, ne-eqb}
-use Rattle.integers.specs.Choose.{choose}
+use Rattle.conditions.specs.Choose.{choose}
 use Rattle.c_state.specs.Stored.{modeAt}
-use Rattle.c_state.proofs.mode_of.Statement.{statement}
-use Rattle.c_state.proofs.mode_of.Tie as tie
+use Rattle.c_state.proofs.mode_at.Statement.{statement}
+use Rattle.c_state.proofs.mode_at.Tie as tie
 
 returns : tie.Need-returns
 unfolding modeAt choose
@@ -17,5 +17,5 @@ returns-3 : tie.Need-returns-3
 unfolding modeAt choose
 returns-3 c = rw (ne-eqb _ _ (c .before .if1 .left), ne-eqb _ _ (c .if2 .left))
 
-pub mode-of-spec : {M : Type 1} → statement M
-mode-of-spec = tie.close (tie.spec returns returns-2 returns-3)
+pub mode-at-spec : {M : Type 1} → statement M
+mode-at-spec = tie.close (tie.spec returns returns-2 returns-3)

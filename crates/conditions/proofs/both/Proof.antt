@@ -1,7 +1,7 @@
 -- `both` decides whether two tests pass. Assumes nothing.
-use Rattle.refusals.specs.Sweep.{both}
-use Rattle.manager.proofs.both.Statement.{statement}
-use Rattle.manager.proofs.both.Tie as tie
+use Rattle.conditions.specs.Both.{both}
+use Rattle.conditions.proofs.both.Statement.{statement}
+use Rattle.conditions.proofs.both.Tie as tie
 
 returns : tie.Need-returns
 unfolding both

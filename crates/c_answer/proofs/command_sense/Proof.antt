@@ -1,11 +1,11 @@
--- `sense` gives the word of a command's sense. Assumes nothing.
+-- `command_sense` gives the word of a command's sense. Assumes nothing.
 use mathlib.Core.Path.{_≡_}
 use borrow.Author.Needs.{needs}
 use mir.Syntax.{w8}
 use mir.Val.{toZ, ofZ}
-use Rattle.c_answer.specs.Words.{senseOf}
-use Rattle.c_answer.proofs.sense.Statement.{statement}
-use Rattle.c_answer.proofs.sense.Tie as tie
+use Rattle.c_answer.specs.Words.{commandSense}
+use Rattle.c_answer.proofs.command_sense.Statement.{statement}
+use Rattle.c_answer.proofs.command_sense.Tie as tie
 
 enum-known-command : tie.Need-enum-known-command
 enum-known-command c = search needs
@@ -20,11 +20,11 @@ enum-told : tie.Need-enum-told
 enum-told c = search needs
 
 returns : tie.Need-returns
-unfolding senseOf
+unfolding commandSense
 returns c = rw (c .before .command .given .1)
 
 returns-2 : tie.Need-returns-2
-unfolding senseOf
+unfolding commandSense
 returns-2 c =
     let k = c .before .before .command2 .given in
     let s = k .0 .1 .1 .0 in
@@ -32,11 +32,11 @@ returns-2 c =
     rw (k .1) (rw e at (c .sense-word .ensures))
 
 returns-3 : tie.Need-returns-3
-unfolding senseOf
+unfolding commandSense
 returns-3 c = rw (c .enum-told .given .1)
 
-pub sense-spec : {M : Type 1} → statement M
-sense-spec =
+pub command-sense-spec : {M : Type 1} → statement M
+command-sense-spec =
     tie.close
     (tie.spec
     enum-known-command

@@ -1,0 +1,4 @@
+pub mod Choose
+pub mod Both
+pub mod Between
+pub mod All

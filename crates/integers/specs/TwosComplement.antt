@@ -1,0 +1,13 @@
+-- Two's complement in 32 bits, both ways. Each undoes the other (proofs/TwosComplementLaws). Assumes nothing.
+use Prim.Native.Nat.{ℕ}
+use lib.IntN.{ℤ}
+use mir.Syntax.{w32}
+use mir.Val.{toZ, ofZ}
+
+-- the number that bits are
+abbrev pub signedOf : ℕ → ℤ
+signedOf u = toZ w32 u
+
+-- the bits of a number
+abbrev pub unsignedOf : ℤ → ℕ
+unsignedOf z = ofZ w32 z
