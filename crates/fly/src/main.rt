@@ -112,7 +112,7 @@ fn number_of(text: &[u8]) -> Parsed {
     Parsed::Number(n as u32)
 }
 
-// Opens the file that an argument names, or says why it can't; the word stands for a name that is too long.
+// Opens the file that an argument names, or says why it can't; the word stands for a name that is too long or empty.
 fn open(place: usize, word: &[u8], name: &mut [u8]) -> Opened
     ensures { λ r. ⌜ Counts (r .length) (now (name .exit)) ⌝ }
 {
@@ -126,7 +126,11 @@ fn open(place: usize, word: &[u8], name: &mut [u8]) -> Opened
     }
     let descriptor = os::open_read(&name[..length]);
     if descriptor < 0 {
-        os::fail(&name[..length]);
+        if length == 0 {
+            os::fail(word);
+        } else {
+            os::fail(&name[..length]);
+        }
     }
     Opened { descriptor, length }
 }
