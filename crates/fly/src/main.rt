@@ -61,12 +61,6 @@ struct Opened {
     length: usize,
 }
 
-// How many bytes were read before the end, or before a read that failed.
-struct Filled {
-    count: usize,
-    failed: bool,
-}
-
 // What stands before a chunk: the reader, how many fixes were flown, and the state after them.
 struct Before {
     reader: u32,
@@ -74,7 +68,7 @@ struct Before {
     state: State,
 }
 
-// The state after a chunk, and whether another one follows.
+// The state after a chunk, and whether another one may follow: not where the plan is refused, nor where a line could not be written.
 struct Next {
     state: State,
     goes_on: bool,
@@ -118,7 +112,7 @@ fn number_of(text: &[u8]) -> Parsed {
     Parsed::Number(n as u32)
 }
 
-// Opens the file that an argument names, or says why it can't; the word stands for a name that is too long.
+// Opens the file that an argument names, or says why it can't; the word stands for a name that is too long or empty.
 fn open(place: usize, word: &[u8], name: &mut [u8]) -> Opened
     ensures { λ r. ⌜ Counts (r .length) (now (name .exit)) ⌝ }
 {
@@ -132,46 +126,13 @@ fn open(place: usize, word: &[u8], name: &mut [u8]) -> Opened
     }
     let descriptor = os::open_read(&name[..length]);
     if descriptor < 0 {
-        os::fail(&name[..length]);
+        if length == 0 {
+            os::fail(word);
+        } else {
+            os::fail(&name[..length]);
+        }
     }
     Opened { descriptor, length }
-}
-
-// One read behind the first bytes. A failure is said.
-fn read_behind(descriptor: i32, name: &[u8], done: usize, room: &mut [u8]) -> Filled
-    requires { ⌜ done ≤ length (now room) ⌝ }
-    ensures { λ r. ⌜ done + r .count ≤ length (now (room .entry)) ⌝ }
-{
-    let part = &mut room[done..];
-    let got = libc::read(descriptor, part);
-    if got < 0 {
-        os::fail(name);
-    }
-    Filled {
-        count: io::count(got, part),
-        failed: got < 0,
-    }
-}
-
-// Reads until the room is full, the file ends or a read fails.
-fn fill(descriptor: i32, name: &[u8], room: &mut [u8]) -> Filled
-    ensures { λ r. ⌜ Counts (r .count) (now (room .exit)) ⌝ }
-{
-    let mut done: usize = 0;
-    while done < room.len() {
-        let read = read_behind(descriptor, name, done, room);
-        if read.count == 0 {
-            return Filled {
-                count: done,
-                failed: read.failed,
-            };
-        }
-        done += read.count;
-    }
-    Filled {
-        count: done,
-        failed: false,
-    }
 }
 
 // The serials that the fixes of a chunk name.
@@ -197,13 +158,13 @@ fn unpack_positions(bytes: &[u8], count: usize, positions: &mut [f32])
     }
 }
 
-// The line of a fix.
-fn show(number: u64, answer: &[u32], numbers: &[f32])
+// The line of a fix. Answers whether it was written.
+fn show(number: u64, answer: &[u32], numbers: &[f32]) -> bool
     requires { ⌜ (8 ≤ length (now answer)) × (6 ≤ length (now numbers)) ⌝ }
 {
     let mut line = [0u8; report::FIX_ROOM];
     let end = report::put_fix(number, answer, numbers, 0, &mut line);
-    console::write(&line, end);
+    console::write(&line, end)
 }
 
 // The line of a plan that is refused.
@@ -214,8 +175,8 @@ fn show_refusal(refusal: u8, place: usize) {
     console::write(&line, end);
 }
 
-// The lines of a chunk.
-fn show_all(flown: u64, count: usize, answers: &[u32], commands: &[f32])
+// The lines of a chunk, up to one that could not be written. Answers whether all were.
+fn show_all(flown: u64, count: usize, answers: &[u32], commands: &[f32]) -> bool
     requires { ⌜ flown < 1152921504606846976 ⌝ }
     requires { ⌜ (8 * count ≤ length (now answers)) × (6 * count ≤ length (now commands)) ⌝ }
 {
@@ -224,8 +185,11 @@ fn show_all(flown: u64, count: usize, answers: &[u32], commands: &[f32])
         let answer = c_answer::ANSWER * i;
         let command = c_answer::COMMAND * i;
         i += 1;
-        show(flown + i as u64, &answers[answer..], &commands[command..]);
+        if !show(flown + i as u64, &answers[answer..], &commands[command..]) {
+            return false;
+        }
     }
+    true
 }
 
 // The first chunk from the plan, a later one from the state before it.
@@ -253,7 +217,7 @@ fn fly_shown(
     positions: &[f32],
     answers: &mut [u32],
     commands: &mut [f32],
-) -> Flown
+) -> Next
     requires { ⌜ before .flown < 1152921504606846976 ⌝ }
     requires { ⌜ (count ≤ length (now serials)) × (3 * count ≤ length (now positions)) ⌝ }
     requires { ⌜ (8 * count ≤ length (now answers)) × (6 * count ≤ length (now commands)) ⌝ }
@@ -267,12 +231,18 @@ fn fly_shown(
         answers,
         commands,
     );
-    if flown.refusal == 0 {
-        show_all(before.flown, count, answers, commands);
-    } else {
+    let state = flown.state;
+    if flown.refusal != 0 {
         show_refusal(flown.refusal, flown.place);
+        return Next {
+            state,
+            goes_on: false,
+        };
     }
-    flown
+    Next {
+        state,
+        goes_on: show_all(before.flown, count, answers, commands),
+    }
 }
 
 // The same of a chunk's bytes, with lists lent for them.
@@ -284,7 +254,7 @@ fn fly_lent(
     positions: &mut [f32],
     answers: &mut [u32],
     commands: &mut [f32],
-) -> Flown
+) -> Next
     requires { ⌜ (before .flown < 1152921504606846976) × (length (now bytes) ≤ 4096) ⌝ }
     requires { ⌜ (length (now serials) ≡ 256) × (length (now positions) ≡ 768) ⌝ }
     requires { ⌜ (length (now answers) ≡ 2048) × (length (now commands) ≡ 1536) ⌝ }
@@ -296,7 +266,7 @@ fn fly_lent(
 }
 
 // The same, with room for the lists.
-fn fly_chunk(before: Before, plan: &[u8], bytes: &[u8]) -> Flown
+fn fly_chunk(before: Before, plan: &[u8], bytes: &[u8]) -> Next
     requires { ⌜ (before .flown < 1152921504606846976) × (length (now bytes) ≤ 4096) ⌝ }
 {
     let mut serials = [0u32; CHUNK];
@@ -315,41 +285,42 @@ fn fly_chunk(before: Before, plan: &[u8], bytes: &[u8]) -> Flown
 }
 
 // Says which fix has no more than its first bytes, where the file ends in one.
-fn tell_cut(name: &[u8], filled: Filled, flown: u64)
+fn tell_cut(name: &[u8], count: usize, flown: u64)
     requires { ⌜ flown < 1152921504606846976 ⌝ }
 {
-    if filled.failed {
-        return;
-    }
-    if filled.count % FIX_BYTES == 0 {
+    if count % FIX_BYTES == 0 {
         return;
     }
     complain(name);
     let mut line = [0u8; LINE_ROOM];
-    let number = flown + (filled.count / FIX_BYTES) as u64 + 1;
+    let number = flown + (count / FIX_BYTES) as u64 + 1;
     let last = text::put_count(b": fix ", number, 0, &mut line);
     let end = text::put_text(b" is cut short\n", last, &mut line);
     console::complain(&line, end);
 }
 
-// Reads a chunk and flies it.
+// Reads a chunk and flies it; one that can't be read whole is not flown.
 fn fly_next(before: Before, plan: &[u8], descriptor: i32, name: &[u8]) -> Next
     requires { ⌜ before .flown < 1152921504606846976 ⌝ }
 {
     let mut space = io::buffer();
-    let filled = fill(descriptor, name, &mut space);
-    let count = filled.count;
-    let flown = fly_chunk(before, plan, &space[..count]);
-    let state = flown.state;
-    if flown.refusal != 0 {
+    let read = console::fill(descriptor, name, &mut space);
+    let count = read.count;
+    let state = before.state;
+    if read.failed {
         return Next {
             state,
             goes_on: false,
         };
     }
-    tell_cut(name, filled, before.flown);
+    let next = fly_chunk(before, plan, &space[..count]);
+    if !next.goes_on {
+        return next;
+    }
+    tell_cut(name, count, before.flown);
+    let after = next.state;
     Next {
-        state,
+        state: after,
         goes_on: count == CHUNK_BYTES,
     }
 }
@@ -399,10 +370,10 @@ fn fly_plan(reader: u32) {
         return;
     }
     let mut space = [0u8; MOST_PLAN];
-    let filled = fill(opened.descriptor, &name[..length], &mut space);
+    let read = console::fill(opened.descriptor, &name[..length], &mut space);
     libc::close(opened.descriptor);
-    let count = filled.count;
-    if !filled.failed {
+    let count = read.count;
+    if !read.failed {
         fly_fixes(reader, &space[..count]);
     }
 }

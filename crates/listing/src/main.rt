@@ -1,12 +1,24 @@
-// Lists the plan on standard input as the newest reader loads it, or says why it is refused (document 01, "Checked examples").
-use libc::STDIN_FILENO;
+// Lists the plan on standard input as the newest reader loads it, or says why it is refused (document 01, "Checked examples"). It takes no
+// arguments; those, and input that can't be read, are trouble: one line on standard error and nothing else.
+
+// How many arguments there are, the program's own name.
+const ARGUMENTS: usize = 1;
 
 // One byte more than a file can have. Longer input is refused as its first bytes are (the promise of wpl::load).
 const MOST: usize = 8204;
 
 fn main() {
+    if ARGUMENTS < os::arg_count() {
+        let usage = b"usage: listing < PLAN\n";
+        console::complain(usage, usage.len());
+        return;
+    }
     let mut file = [0u8; MOST];
-    let count = io::read_full(STDIN_FILENO, &mut file);
+    let read = console::read(&mut file);
+    let count = read.count;
+    if read.failed {
+        return;
+    }
     let mut text = [0u8; report::LISTING_ROOM];
     let length = report::listing(&file[..count], &mut text);
     console::write(&text, length);

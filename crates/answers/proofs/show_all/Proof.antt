@@ -6,10 +6,10 @@ use Rattle.answers.proofs.show_all.Statement.{statement}
 use Rattle.answers.proofs.show_all.Tie as tie
 
 abbrev Inv-loop : tie.InvT-loop
-Inv-loop questions at₀ t6 at = at ≤ length questions
+Inv-loop questions at₀ t7 at = at ≤ length questions
 
 abbrev μ-loop : tie.MeasureT-loop
-μ-loop questions at₀ t6 at = length questions - at
+μ-loop questions at₀ t7 at = length questions - at
 
 loop-holds : tie.Need-loop-holds Inv-loop μ-loop
 loop-holds c = search needs
@@ -31,15 +31,6 @@ cast-size c = search needs
 
 sub-if1 : tie.Need-sub-if1 Inv-loop μ-loop
 sub-if1 c = search needs
-
-slice-aggregate-say : tie.Need-slice-aggregate-say Inv-loop μ-loop
-slice-aggregate-say c = search needs
-
-say-requires : tie.Need-say-requires Inv-loop μ-loop
-say-requires c κs = search needs
-
-returns : tie.Need-returns Inv-loop μ-loop
-returns c = search needs
 
 add-to : tie.Need-add-to Inv-loop μ-loop
 add-to c = search needs
@@ -71,14 +62,26 @@ part-show-end c = search needs
 show-requires : tie.Need-show-requires Inv-loop μ-loop
 show-requires c κs = search needs
 
+returns : tie.Need-returns Inv-loop μ-loop
+returns c = search needs
+
 loop-less : tie.Need-loop-less Inv-loop μ-loop
 loop-less c = search needs
 
 loop-again : tie.Need-loop-again Inv-loop μ-loop
 loop-again c = search needs
 
+slice-aggregate-say : tie.Need-slice-aggregate-say Inv-loop μ-loop
+slice-aggregate-say c = search needs
+
+say-requires : tie.Need-say-requires Inv-loop μ-loop
+say-requires c κs = search needs
+
 returns-2 : tie.Need-returns-2 Inv-loop μ-loop
 returns-2 c = search needs
+
+returns-3 : tie.Need-returns-3 Inv-loop μ-loop
+returns-3 c = search needs
 
 pub show-all-spec : {M : Type 1} → statement M
 show-all-spec =
@@ -93,9 +96,6 @@ show-all-spec =
     u16-at-requires
     cast-size
     sub-if1
-    slice-aggregate-say
-    say-requires
-    returns
     add-to
     shared-slice-read-show
     add-u32-at
@@ -106,6 +106,10 @@ show-all-spec =
     part-show-start
     part-show-end
     show-requires
+    returns
     loop-less
     loop-again
-    returns-2)
+    slice-aggregate-say
+    say-requires
+    returns-2
+    returns-3)

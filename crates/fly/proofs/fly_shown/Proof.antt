@@ -18,12 +18,6 @@ slice-aggregate-fly-lists-2 c = sym (length-take-le _ _ (search needs))
 fly-lists-requires : tie.Need-fly-lists-requires
 fly-lists-requires c κs = search needs
 
-show-all-requires : tie.Need-show-all-requires
-show-all-requires c κs =
-    let f = c .before .before .before .before .before .before .before .before in
-    let s = f .before .before .before .before .before .before .before .before .before .before in
-    (s .pre .0, (omega (arith, s .pre .1 .1 .0, f .fly-lists .kept .1 .1 .1 .1 .0), omega (arith, s .pre .1 .1 .1, f .fly-lists .kept .1 .1 .1 .1 .1 .0)))
-
 show-refusal-requires : tie.Need-show-refusal-requires
 show-refusal-requires c κs = search needs
 
@@ -35,6 +29,12 @@ same-length-2 c = search needs
 
 returns : tie.Need-returns
 returns c = search needs
+
+show-all-requires : tie.Need-show-all-requires
+show-all-requires c κs =
+    let f = c .before .before .before .before .before .before .before .before .before in
+    let s = f .before .before .before .before .before .before .before .before .before .before in
+    (s .pre .0, (omega (arith, s .pre .1 .1 .0, f .fly-lists .kept .1 .1 .1 .1 .0), omega (arith, s .pre .1 .1 .1, f .fly-lists .kept .1 .1 .1 .1 .1 .0)))
 
 same-length-3 : tie.Need-same-length-3
 same-length-3 c = search needs
@@ -53,11 +53,11 @@ fly-shown-spec =
     slice-aggregate-fly-lists
     slice-aggregate-fly-lists-2
     fly-lists-requires
-    show-all-requires
     show-refusal-requires
     same-length
     same-length-2
     returns
+    show-all-requires
     same-length-3
     same-length-4
     returns-2)

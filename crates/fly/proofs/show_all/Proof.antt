@@ -52,14 +52,17 @@ part-show-end-2 c = search needs
 show-requires : tie.Need-show-requires Inv-loop μ-loop
 show-requires c κs = search needs
 
+returns : tie.Need-returns Inv-loop μ-loop
+returns c = search needs
+
 loop-less : tie.Need-loop-less Inv-loop μ-loop
 loop-less c = search needs
 
 loop-again : tie.Need-loop-again Inv-loop μ-loop
 loop-again c = search needs
 
-returns : tie.Need-returns Inv-loop μ-loop
-returns c = search needs
+returns-2 : tie.Need-returns-2 Inv-loop μ-loop
+returns-2 c = search needs
 
 pub show-all-spec : {M : Type 1} → statement M
 show-all-spec =
@@ -81,6 +84,7 @@ show-all-spec =
     part-show-start-2
     part-show-end-2
     show-requires
+    returns
     loop-less
     loop-again
-    returns)
+    returns-2)
