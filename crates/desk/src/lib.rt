@@ -32,8 +32,8 @@ pub extern "C" fn farnkuppel_interface() -> u32
 pub extern "C" fn farnkuppel_refusal(file: &[u8], reader: u32) -> u32
     ensures { λ r. ⌜ r ≡ loadedOf (loadOf reader (now (file .entry))) .refusal ⌝ }
 {
-    let found = wpl::refusal(file, reader);
-    found.number as u32
+    let first = wpl::refusal(file, reader);
+    first.number as u32
 }
 
 // The same with the place of the refusal.

@@ -446,10 +446,10 @@ pub fn note(file: &[u8], number: usize) -> &[u8]
 fn noted(kind: u8) -> usize
     ensures { λ r. ⌜ r ≡ notedOf kind ⌝ }
 {
-    if kind == records::NOTE.kind {
-        return 1;
+    if kind != records::NOTE.kind {
+        return 0;
     }
-    0
+    1
 }
 
 // The notes among a file's records, up to one that is cut short.

@@ -8,11 +8,11 @@ use Rattle.wpl.proofs.noted.Tie as tie
 
 returns : tie.Need-returns
 unfolding notedOf
-returns c = sym (choose-true _ _ _ (eq-eqb _ _ (c .if1 .taken)))
+returns c = sym (choose-false _ _ _ (ne-eqb _ _ (c .if1 .taken)))
 
 returns-2 : tie.Need-returns-2
 unfolding notedOf
-returns-2 c = sym (choose-false _ _ _ (ne-eqb _ _ (c .if1 .left)))
+returns-2 c = sym (choose-true _ _ _ (eq-eqb _ _ (c .if1 .left)))
 
 pub noted-spec : {M : Type 1} → statement M
 noted-spec = tie.close (tie.spec returns returns-2)
