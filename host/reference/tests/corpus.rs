@@ -10,9 +10,8 @@ use std::path::{Path, PathBuf};
 type Row = BTreeMap<String, String>;
 
 /// The columns of a fix's answer.
-const ANSWER: [&str; 14] = [
-    "refusal", "place", "kind", "c1", "c2", "c3", "c4", "c5", "c6", "sense", "heading", "index", "phase", "finished",
-];
+const ANSWER: [&str; 14] =
+    ["refusal", "place", "kind", "c1", "c2", "c3", "c4", "c5", "c6", "sense", "heading", "index", "phase", "finished"];
 
 fn corpus() -> Option<PathBuf> {
     let folder = std::env::var_os("CORPUS").map(PathBuf::from);
@@ -147,7 +146,8 @@ fn listed(text: &str) -> impl Iterator<Item = &str> {
 
 fn state_of(row: &Row) -> State {
     let number = |name: &str| whole(&row[name]);
-    let mut state = State { serial: number("serial"), radius: number("radius"), count: number("count"), ..State::EMPTY };
+    let mut state =
+        State { serial: number("serial"), radius: number("radius"), count: number("count"), ..State::EMPTY };
     state.mode = [Mode::Lines, Mode::Fillets, Mode::Dubins][number("mode") as usize];
     for (place, text) in listed(&row["points"]).enumerate() {
         let parts: Vec<i32> = text.split(',').map(|t| t.parse().unwrap()).collect();
