@@ -1,4 +1,4 @@
-//! The expected answers of a corpus folder, named by the environment variable CORPUS; skipped where that is unset.
+//! The expected answers of a corpus folder, named by the environment variable CORPUS; skipped where that is unset or empty.
 //!
 //! Its folder requests/04 decides the last leg of lines and fillets, and the folder itself all else.
 
@@ -14,9 +14,9 @@ const ANSWER: [&str; 14] =
     ["refusal", "place", "kind", "c1", "c2", "c3", "c4", "c5", "c6", "sense", "heading", "index", "phase", "finished"];
 
 fn corpus() -> Option<PathBuf> {
-    let folder = std::env::var_os("CORPUS").map(PathBuf::from);
+    let folder = std::env::var_os("CORPUS").filter(|name| !name.is_empty()).map(PathBuf::from);
     if folder.is_none() {
-        eprintln!("CORPUS is unset: skipped");
+        eprintln!("CORPUS names none: skipped");
     }
     folder
 }
