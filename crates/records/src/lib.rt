@@ -34,8 +34,8 @@ pub const AREA_OFFSET: usize = 9;
 // The bytes before the first record.
 pub const HEADER_LENGTH: usize = 11;
 
-// The bytes before a record's body: its kind and its length.
-pub const HEAD_LENGTH: usize = 2;
+// Where a record's body stands in it, behind its kind and its length.
+pub const BODY_OFFSET: usize = 2;
 
 // Where the numbers of a point stand in its body.
 pub const NORTH_OFFSET: usize = 0;
@@ -369,7 +369,7 @@ pub fn end_at(file: &[u8], at: usize) -> usize
     if file.len() <= at {
         return 0;
     }
-    let from = at + HEAD_LENGTH;
+    let from = at + BODY_OFFSET;
     if file.len() < from {
         return 0;
     }
@@ -388,7 +388,7 @@ fn effect_at(file: &[u8], reader: u32, version: u16, at: usize, to: usize, befor
     if to == 0 {
         return Effect::Wrong;
     }
-    let from = at + HEAD_LENGTH;
+    let from = at + BODY_OFFSET;
     effect_of(reader, version, file[at], &file[from..to], before)
 }
 

@@ -417,7 +417,7 @@ fn find_note(file: &[u8], number: usize) -> Span
         let kind = file[at];
         if wanted(kind, left) {
             return Span::At {
-                start: at + records::HEAD_LENGTH,
+                start: at + records::BODY_OFFSET,
                 end: to,
             };
         }

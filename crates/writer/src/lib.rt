@@ -4,10 +4,10 @@ use integers::TWO_BYTES;
 use plan::Head;
 use plane::Point;
 use records::AREA_OFFSET;
+use records::BODY_OFFSET;
 use records::COURSE_ROW;
 use records::DOWN_OFFSET;
 use records::EAST_OFFSET;
-use records::HEAD_LENGTH;
 use records::HEADER_LENGTH;
 use records::MARK;
 use records::POINT_ROW;
@@ -36,11 +36,11 @@ const POINT_BODY: u8 = POINT_ROW.high as u8;
 
 const VALUE_BODY: u8 = COURSE_ROW.high as u8;
 
-const POINT_RECORD: usize = HEAD_LENGTH + POINT_ROW.high;
+const POINT_RECORD: usize = BODY_OFFSET + POINT_ROW.high;
 
-const RADIUS_RECORD: usize = HEAD_LENGTH + RADIUS_ROW.high;
+const RADIUS_RECORD: usize = BODY_OFFSET + RADIUS_ROW.high;
 
-const COURSE_RECORD: usize = HEAD_LENGTH + COURSE_ROW.high;
+const COURSE_RECORD: usize = BODY_OFFSET + COURSE_ROW.high;
 
 // Where the lower half of a number of four bytes stands.
 const LOWER: usize = 2;
@@ -109,7 +109,7 @@ fn put_point_record(point: Point, at: usize, file: &mut [u8])
     ensures { λ _. ⌜ now (file .exit) ≡ splice at (recordBytes 1 (pointBytes point)) (now (file .entry)) ⌝ }
 {
     put_head(POINT_ROW.kind, POINT_BODY, at, file);
-    let body = at + HEAD_LENGTH;
+    let body = at + BODY_OFFSET;
     put_point(point, &mut file[body..]);
 }
 
@@ -119,7 +119,7 @@ fn put_value_record(kind: u8, value: u16, at: usize, file: &mut [u8])
     ensures { λ _. ⌜ now (file .exit) ≡ splice at (recordBytes kind (u16Bytes value)) (now (file .entry)) ⌝ }
 {
     put_head(kind, VALUE_BODY, at, file);
-    let body = at + HEAD_LENGTH;
+    let body = at + BODY_OFFSET;
     put_u16(value, &mut file[body..]);
 }
 
