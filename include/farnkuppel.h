@@ -24,6 +24,10 @@
 extern "C" {
 #endif
 
+/* The release of the whole, archives, programs and pages: the only place of its number. CHANGELOG.md says what the three numbers mean and what each
+ * release brought. The number of the interface is another thing, and most releases keep it. */
+#define FARNKUPPEL_RELEASE "2.1.0"
+
 /* The number of this interface. It grows whenever a word moves or a function changes; the first interface had none. An archive answers its own by
  * farnkuppel_interface: where that is another number, nothing below holds of the archive. */
 #define FARNKUPPEL_INTERFACE 2
@@ -65,51 +69,74 @@ extern "C" {
 
 /* ---- refusals */
 
-/* Refusal numbers, and the place that the answer has with each: 0 where none is named. The first that applies is given. A load looks at the
- * reader's version, then in the order of the numbers, at the records one after the other for 6 and 7 and at the legs for 12 and 17; what is said
- * of a load holds of farnkuppel_refusal too, which has no place. A fix looks for 14, 15, 13, a write for 14, 3, 7, 16. */
+/* A row for each refusal: its number, its name and the same in words; above the row when it is given, and the place that the answer has with it,
+ * 0 where none is named. The first that applies is given. A load looks at the reader's version, then in the order of the numbers, at the records
+ * one after the other for 6 and 7 and at the legs for 12 and 17; what is said of a load holds of farnkuppel_refusal too, which has no place. A fix
+ * looks for 14, 15, 13, a write for 14, 3, 7, 16. */
+#define FARNKUPPEL_REFUSALS(ROW) \
+    /* A load: the file has under 11 bytes. */ \
+    ROW(1, FILE_TOO_SHORT, "file shorter than its header") \
+    /* A load: the file does not begin with WPL. */ \
+    ROW(2, NO_MARK, "file does not begin with WPL") \
+    /* A load: the reader's version is none of 1 to 3, or the file's is 0. A write: the version is none of 1 to 3. */ \
+    ROW(3, NO_VERSION, "no such version") \
+    /* A load: the file's serial is 0. */ \
+    ROW(4, NO_SERIAL, "serial is 0") \
+    /* A load: the area length is not the number of bytes behind the header, or over 8,192. */ \
+    ROW(5, WRONG_AREA, "wrong length of the record area") \
+    /* A load: a record is cut short; has a wrong length, value or position for its kind; is newer than the file's version; or is of a kind that \
+     * the reader does not know, in a file that is not newer than the reader. Place: the record's offset in the file. */ \
+    ROW(6, WRONG_RECORD, "record wrong or cut short") \
+    /* A load: a record that the reader does not know and may not leave out, in a newer file. Place: the record's offset in the file. \
+     * A write: the plan needs a higher version. Place: 0. */ \
+    ROW(7, TOO_NEW, "needs a higher version") \
+    /* A load: under 3 points, or over 64. */ \
+    ROW(8, POINT_COUNT, "too few or too many points") \
+    /* A load: a course without a radius, or courses at some points only. */ \
+    ROW(9, COURSE_COUNT, "courses without a radius, or not at every point") \
+    /* A load: neighbouring points are equal in north and east. Place: the later point, from 1. */ \
+    ROW(10, EQUAL_NEIGHBOURS, "neighbouring points are equal in north and east") \
+    /* A load: in lines, legs that are exactly opposite; in fillets, a turn of more than 1,792. Place: the corner's point, from 1. */ \
+    ROW(11, SHARP_CORNER, "corner too sharp") \
+    /* A load: in fillets, a leg that is too short for the circles at its ends; in Dubins plans, one of under three radii in north and east. \
+     * Place: the leg's end point, from 1. */ \
+    ROW(12, SHORT_LEG, "leg too short for its turns") \
+    /* A fix: a number is NaN or infinite, or beyond the ranges above. */ \
+    ROW(13, NO_POSITION, "position out of range or not a number") \
+    /* A fix or a write: the words hold no state, or one that breaks a rule. */ \
+    ROW(14, NO_STATE, "state is empty or breaks a rule") \
+    /* A fix: the serial that it names is not the state's. */ \
+    ROW(15, OTHER_SERIAL, "serial of another plan") \
+    /* A write: the buffer is shorter than the file. */ \
+    ROW(16, NO_ROOM, "no room for the file") \
+    /* A load: there is no Dubins path for a leg. Place: the leg's end point, from 1. */ \
+    ROW(17, NO_CASE, "no Dubins path for a leg") \
+    /* Any call: a lent slice that has a least length is shorter. Nothing is written, so there is no place. */ \
+    ROW(100, MISFIT, "lent memory is too short")
+
+/* The numbers: FARNKUPPEL_ACCEPTED, and FARNKUPPEL_REFUSED_ with the name of each row. */
+#define FARNKUPPEL_NUMBER_ROW(number, name, text) , FARNKUPPEL_REFUSED_##name = number
 enum farnkuppel_refusal_number {
-    FARNKUPPEL_ACCEPTED = 0,
-    /* A load: the file has under 11 bytes. */
-    FARNKUPPEL_REFUSED_FILE_TOO_SHORT = 1,
-    /* A load: the file does not begin with WPL. */
-    FARNKUPPEL_REFUSED_NO_MARK = 2,
-    /* A load: the reader's version is none of 1 to 3, or the file's is 0. A write: the version is none of 1 to 3. */
-    FARNKUPPEL_REFUSED_NO_VERSION = 3,
-    /* A load: the file's serial is 0. */
-    FARNKUPPEL_REFUSED_NO_SERIAL = 4,
-    /* A load: the area length is not the number of bytes behind the header, or over 8,192. */
-    FARNKUPPEL_REFUSED_WRONG_AREA = 5,
-    /* A load: a record is cut short; has a wrong length, value or position for its kind; is newer than the file's version; or is of a kind that
-     * the reader does not know, in a file that is not newer than the reader. Place: the record's offset in the file. */
-    FARNKUPPEL_REFUSED_WRONG_RECORD = 6,
-    /* A load: a record that the reader does not know and may not leave out, in a newer file. Place: the record's offset in the file.
-     * A write: the plan needs a higher version. Place: 0. */
-    FARNKUPPEL_REFUSED_TOO_NEW = 7,
-    /* A load: under 3 points, or over 64. */
-    FARNKUPPEL_REFUSED_POINT_COUNT = 8,
-    /* A load: a course without a radius, or courses at some points only. */
-    FARNKUPPEL_REFUSED_COURSE_COUNT = 9,
-    /* A load: neighbouring points are equal in north and east. Place: the later point, from 1. */
-    FARNKUPPEL_REFUSED_EQUAL_NEIGHBOURS = 10,
-    /* A load: in lines, legs that are exactly opposite; in fillets, a turn of more than 1,792. Place: the corner's point, from 1. */
-    FARNKUPPEL_REFUSED_SHARP_CORNER = 11,
-    /* A load: in fillets, a leg that is too short for the circles at its ends; in Dubins plans, one of under three radii in north and east.
-     * Place: the leg's end point, from 1. */
-    FARNKUPPEL_REFUSED_SHORT_LEG = 12,
-    /* A fix: a number is NaN or infinite, or beyond the ranges above. */
-    FARNKUPPEL_REFUSED_NO_POSITION = 13,
-    /* A fix or a write: the words hold no state, or one that breaks a rule. */
-    FARNKUPPEL_REFUSED_NO_STATE = 14,
-    /* A fix: the serial that it names is not the state's. */
-    FARNKUPPEL_REFUSED_OTHER_SERIAL = 15,
-    /* A write: the buffer is shorter than the file. */
-    FARNKUPPEL_REFUSED_NO_ROOM = 16,
-    /* A load: there is no Dubins path for a leg. Place: the leg's end point, from 1. */
-    FARNKUPPEL_REFUSED_NO_CASE = 17,
-    /* A load, a fix, a write or a note: a lent slice is too short. Nothing is written, so there is no place. */
-    FARNKUPPEL_REFUSED_MISFIT = 100
+    FARNKUPPEL_ACCEPTED = 0
+    FARNKUPPEL_REFUSALS(FARNKUPPEL_NUMBER_ROW)
 };
+#undef FARNKUPPEL_NUMBER_ROW
+
+/* A refusal in words: the text of its row, "accepted" for 0, and "unknown refusal" for a number that has no row. */
+static inline const char *farnkuppel_refusal_name(uint32_t number)
+{
+#define FARNKUPPEL_TEXT_ROW(number, name, text) \
+    case number: \
+        return text;
+    switch (number) {
+        FARNKUPPEL_REFUSALS(FARNKUPPEL_TEXT_ROW)
+    case FARNKUPPEL_ACCEPTED:
+        return "accepted";
+    default:
+        return "unknown refusal";
+    }
+#undef FARNKUPPEL_TEXT_ROW
+}
 
 /* ---- a state */
 
