@@ -1,13 +1,13 @@
 //! The map's frame: where a place in metres stands on the picture.
-use crate::flown::Circle;
-use crate::listing::Place;
+use super::track::Circle;
+use super::Place;
 
 /// The picture's size and the frame's sides, in pixels.
 pub const WIDTH: f64 = 900.0;
 pub const HEIGHT: f64 = 700.0;
 pub const LEFT: f64 = 64.0;
 pub const RIGHT: f64 = 724.0;
-pub const TOP: f64 = 48.0;
+pub const TOP: f64 = 60.0;
 pub const BOTTOM: f64 = 660.0;
 
 /// What is left free between the frame and what is drawn in it.
@@ -82,9 +82,22 @@ impl Frame {
         (TOP + BOTTOM) / 2.0 - (north - self.middle.north) * self.scale
     }
 
+    /// Lines through places, as the data of a path.
+    pub fn lines_through(&self, places: &[Place]) -> String {
+        let at = |(i, place): (usize, &Place)| {
+            let letter = if i == 0 { "M" } else { "L" };
+            format!(
+                "{letter}{:.1} {:.1}",
+                self.x(place.east),
+                self.y(place.north)
+            )
+        };
+        places.iter().enumerate().map(at).collect()
+    }
+
     /// The pixels between two places.
     pub fn pixels(&self, one: Place, other: Place) -> f64 {
-        (one.north - other.north).hypot(one.east - other.east) * self.scale
+        one.distance(other) * self.scale
     }
 
     /// Whether a place is a number and stands in the frame.

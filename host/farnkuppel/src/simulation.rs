@@ -1,0 +1,160 @@
+//! A simulated aircraft, which flies a plan from its first point as it is told: it keeps its speed, turns at a limited rate toward the heading
+//! that it is answered, and takes the height of the line or circle that it is commanded.
+
+use crate::fixes::{Fix, MOST_FIXES};
+use crate::flight::{Flight, Path};
+use crate::picture::Place;
+use crate::plan::Plan;
+use archive::number::CIRCLE;
+use std::f64::consts::{PI, TAU};
+
+/// Metres a second, radians a second at most, and fixes a second.
+const SPEED: f64 = 25.0;
+const TURN: f64 = 0.6;
+const FIXES_A_SECOND: f64 = 10.0;
+
+/// Where the plan's circles are smaller than the aircraft's, it turns so much faster than they ask for.
+const SPARE_TURN: f64 = 1.5;
+
+/// A flight is given up after this many times the plan's legs, and so many metres more. A Dubins leg of three radii with two whole circles is about
+/// five times as long as the leg.
+const MOST_LEGS: f64 = 8.0;
+const SPARE_METRES: f64 = 2000.0;
+
+/// After so many fixes one follows that names another serial; after so many, one whose north is no number.
+const OTHER_SERIAL: usize = 97;
+const NO_NUMBER: usize = 131;
+
+/// Metres, radians clockwise from north, and radians from one fix to the next.
+struct Aircraft {
+    north: f64,
+    east: f64,
+    down: f64,
+    heading: f64,
+    turn: f64,
+}
+
+/// The fixes of a flight, and whether it came to the plan's end.
+pub struct Simulated {
+    pub fixes: Vec<Fix>,
+    pub finished: bool,
+}
+
+/// The height of a path where the aircraft is over it. A line's is that of the leg, from its start to its end.
+fn height(path: &Path, plane: &Aircraft) -> f64 {
+    match path {
+        Path::Nothing => plane.down,
+        Path::Circle(circle) => f64::from(circle[2]),
+        Path::Line(line) => {
+            let [north, east, down, by_north, by_east, by_down] = line.map(f64::from);
+            let along = (plane.north - north) * by_north + (plane.east - east) * by_east;
+            let part = along / (by_north * by_north + by_east * by_east);
+            down + by_down * part.clamp(0.0, 1.0)
+        }
+    }
+}
+
+impl Aircraft {
+    /// Over the first point, heading for the second.
+    fn over(places: &[(Place, f64)]) -> Aircraft {
+        let ((first, down), (second, _)) = (places[0], places[1]);
+        let heading = (second.east - first.east).atan2(second.north - first.north);
+        Aircraft {
+            north: first.north,
+            east: first.east,
+            down,
+            heading,
+            turn: 0.0,
+        }
+    }
+
+    fn fix(&self, serial: u32) -> Fix {
+        Fix {
+            serial,
+            position: [self.north, self.east, self.down].map(|metres| metres as f32),
+        }
+    }
+
+    /// Turns toward a heading the short way, by so much at most.
+    fn turn_to(&mut self, heading: u32, most: f64) {
+        let wanted = f64::from(heading) * TAU / f64::from(CIRCLE);
+        let turn = (wanted - self.heading + PI).rem_euclid(TAU) - PI;
+        self.turn = turn.clamp(-most, most);
+    }
+
+    /// Goes on to the next fix.
+    fn advance(&mut self) {
+        self.heading += self.turn;
+        self.north += SPEED / FIXES_A_SECOND * self.heading.cos();
+        self.east += SPEED / FIXES_A_SECOND * self.heading.sin();
+    }
+}
+
+/// The radians between two fixes that the aircraft can turn by.
+fn most_turn(plan: &Plan) -> f64 {
+    let asked = plan
+        .radius()
+        .map_or(0.0, |radius| SPARE_TURN * SPEED / Place::metres(radius));
+    TURN.max(asked) / FIXES_A_SECOND
+}
+
+/// How many fixes a flight has at the most.
+fn most_fixes(places: &[(Place, f64)]) -> usize {
+    let legs: f64 = places
+        .windows(2)
+        .map(|leg| leg[0].0.distance(leg[1].0))
+        .sum();
+    let fixes = (MOST_LEGS * legs + SPARE_METRES) / SPEED * FIXES_A_SECOND;
+    (fixes as usize).min(MOST_FIXES)
+}
+
+/// The fixes that are refused on purpose behind an accepted one.
+fn strays(count: usize, fix: Fix) -> impl Iterator<Item = Fix> {
+    let [_, east, down] = fix.position;
+    let other = Fix {
+        serial: fix.serial.wrapping_add(1),
+        ..fix
+    };
+    let none = Fix {
+        position: [f32::NAN, east, down],
+        ..fix
+    };
+    [(OTHER_SERIAL, other), (NO_NUMBER, none)]
+        .into_iter()
+        .filter(move |(every, _)| count % every == 0)
+        .map(|(_, stray)| stray)
+}
+
+/// Flies until the library says finished, with strays among the fixes where they are asked for. A fix that is refused for its own sake, out of the
+/// range of fixes, is one more of the same turn.
+pub fn fly(plan: &Plan, with_strays: bool) -> Simulated {
+    let places: Vec<(Place, f64)> = plan
+        .points()
+        .iter()
+        .map(|point| (Place::of(point), Place::metres(point.down)))
+        .collect();
+    let (mut plane, mut flight) = (Aircraft::over(&places), Flight::of(plan));
+    let mut simulated = Simulated {
+        fixes: Vec::new(),
+        finished: false,
+    };
+    let most = most_fixes(&places);
+    for count in 1.. {
+        let fix = plane.fix(plan.serial());
+        simulated.fixes.push(fix);
+        if with_strays {
+            simulated.fixes.extend(strays(count, fix));
+        }
+        let answer = flight.fix(&fix);
+        simulated.finished = answer.finished();
+        if simulated.finished || simulated.fixes.len() >= most {
+            break;
+        }
+        if answer.refusal().is_none() {
+            plane.turn_to(answer.heading(), most_turn(plan));
+            plane.down = height(&answer.path(), &plane);
+        }
+        plane.advance();
+    }
+    simulated
+}
