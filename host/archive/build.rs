@@ -34,20 +34,10 @@ fn value_of(text: &str) -> Option<u32> {
 fn number_of(line: &str) -> Option<Number> {
     let line = line.trim_start();
     let defined = line.strip_prefix("#define ");
-    let (name, rest) = defined
-        .unwrap_or(line)
-        .strip_prefix(PREFIX)?
-        .split_once(' ')?;
-    let value = if defined.is_some() {
-        rest
-    } else {
-        rest.strip_prefix("= ")?
-    };
+    let (name, rest) = defined.unwrap_or(line).strip_prefix(PREFIX)?.split_once(' ')?;
+    let value = if defined.is_some() { rest } else { rest.strip_prefix("= ")? };
     let value = value_of(value.split([' ', ',', '\n']).next()?)?;
-    Some(Number {
-        name: name.to_string(),
-        value,
-    })
+    Some(Number { name: name.to_string(), value })
 }
 
 /// The row of a line `ROW(NUMBER, NAME, "WORDS")`.
@@ -56,17 +46,12 @@ fn row_of(line: &str) -> Option<Row> {
     let mut parts = row.splitn(3, ", ");
     let value = value_of(parts.next()?)?;
     let name = format!("REFUSED_{}", parts.next()?);
-    Some(Row {
-        number: Number { name, value },
-        words: parts.next()?.to_string(),
-    })
+    Some(Row { number: Number { name, value }, words: parts.next()?.to_string() })
 }
 
 /// The release, in quotes.
 fn release_of(header: &str) -> &str {
-    let line = header
-        .lines()
-        .find_map(|line| line.strip_prefix("#define FARNKUPPEL_RELEASE "));
+    let line = header.lines().find_map(|line| line.strip_prefix("#define FARNKUPPEL_RELEASE "));
     line.expect("the header has a release number")
 }
 
@@ -82,19 +67,13 @@ fn written(header: &str) -> String {
     let rows: Vec<Row> = header.lines().filter_map(row_of).collect();
     assert!(!rows.is_empty(), "the header has a table of refusals");
     let named: Vec<Number> = header.lines().filter_map(number_of).collect();
-    let numbers: Vec<&Number> = named
-        .iter()
-        .chain(rows.iter().map(|row| &row.number))
-        .collect();
-    let words: String = rows
-        .iter()
-        .map(|r| format!("    ({}, {}),\n", r.number.value, r.words))
-        .collect();
-    let refusals = format!("/// Each refusal's number and words.\npub const REFUSALS: [(u32, &str); {}] = [\n{words}];\n", rows.len());
-    let release = format!(
-        "/// The release of the whole.\npub const RELEASE: &str = {};\n",
-        release_of(header)
+    let numbers: Vec<&Number> = named.iter().chain(rows.iter().map(|row| &row.number)).collect();
+    let words: String = rows.iter().map(|r| format!("    ({}, {}),\n", r.number.value, r.words)).collect();
+    let refusals = format!(
+        "/// Each refusal's number and words.\npub const REFUSALS: [(u32, &str); {}] = [\n{words}];\n",
+        rows.len()
     );
+    let release = format!("/// The release of the whole.\npub const RELEASE: &str = {};\n", release_of(header));
     release + &refusals + &module("number", "u32", &numbers) + &module("size", "usize", &numbers)
 }
 
@@ -102,26 +81,14 @@ fn written(header: &str) -> String {
 fn link(archives: &str, out: &str) {
     for name in ["autopilot", "desk"] {
         let archive = format!("{archives}/lib{name}.a");
-        assert!(
-            Path::new(&archive).is_file(),
-            "{archive} is missing: tools/archives makes it"
-        );
+        assert!(Path::new(&archive).is_file(), "{archive} is missing: tools/archives makes it");
         println!("cargo:rerun-if-changed={archive}");
     }
     let renamed = Command::new("objcopy")
-        .args([
-            "--redefine-sym",
-            "farnkuppel_interface=farnkuppel_desk_interface",
-        ])
-        .args([
-            format!("{archives}/libdesk.a"),
-            format!("{out}/libdesk_renamed.a"),
-        ])
+        .args(["--redefine-sym", "farnkuppel_interface=farnkuppel_desk_interface"])
+        .args([format!("{archives}/libdesk.a"), format!("{out}/libdesk_renamed.a")])
         .status();
-    assert!(
-        renamed.expect("objcopy is there").success(),
-        "objcopy renames a function of libdesk.a"
-    );
+    assert!(renamed.expect("objcopy is there").success(), "objcopy renames a function of libdesk.a");
     println!("cargo:rustc-link-search=native={archives}");
     println!("cargo:rustc-link-search=native={out}");
     for name in ["autopilot", "desk_renamed"] {
@@ -137,6 +104,5 @@ fn main() {
     let name = format!("{here}/../../include/farnkuppel.h");
     println!("cargo:rerun-if-changed={name}");
     let header = fs::read_to_string(&name).expect("the header can be read");
-    fs::write(format!("{out}/header.rs"), written(&header))
-        .expect("the header's numbers can be written");
+    fs::write(format!("{out}/header.rs"), written(&header)).expect("the header's numbers can be written");
 }

@@ -69,13 +69,7 @@ pub fn load(file: &[u8], reader: u32, state: &mut [i32], answer: &mut [u32]) -> 
     }
 }
 
-pub fn fix(
-    state: &mut [i32],
-    serial: u32,
-    fix: [f32; 3],
-    answer: &mut [u32],
-    command: &mut [f32],
-) -> u32 {
+pub fn fix(state: &mut [i32], serial: u32, fix: [f32; 3], answer: &mut [u32], command: &mut [f32]) -> u32 {
     // SAFETY: every pointer comes with the length of its slice, and the slices are apart.
     unsafe {
         c::farnkuppel_fix(

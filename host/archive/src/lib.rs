@@ -27,12 +27,8 @@ pub const LINE: [usize; 6] = [
 ];
 
 /// Where a circle's stand: the north, east and down of its centre, then its radius.
-pub const CIRCLE: [usize; 4] = [
-    size::CIRCLE_CENTRE_NORTH,
-    size::CIRCLE_CENTRE_EAST,
-    size::CIRCLE_CENTRE_DOWN,
-    size::CIRCLE_RADIUS,
-];
+pub const CIRCLE: [usize; 4] =
+    [size::CIRCLE_CENTRE_NORTH, size::CIRCLE_CENTRE_EAST, size::CIRCLE_CENTRE_DOWN, size::CIRCLE_RADIUS];
 
 /// A refusal in words. A number that the header lacks cannot come from archives of its interface.
 pub fn refusal_words(number: u32) -> &'static str {

@@ -2,6 +2,4 @@
 
 pub use archive::calls::*;
 pub use archive::number::{INTERFACE, REFUSED_MISFIT as MISFIT};
-pub use archive::size::{
-    ANSWER_WORDS, COMMAND_NUMBERS, LOAD_WORDS, NOTE_BYTES, NOTE_WORDS, WRITE_WORDS,
-};
+pub use archive::size::{ANSWER_WORDS, COMMAND_NUMBERS, LOAD_WORDS, NOTE_BYTES, NOTE_WORDS, WRITE_WORDS};

@@ -8,8 +8,8 @@ use std::fmt::UpperHex;
 
 pub use archive::size::{
     STATE_COUNT as COUNT, STATE_COURSES as COURSES, STATE_DOWNS as DOWNS, STATE_EASTS as EASTS,
-    STATE_FINISHED as FINISHED, STATE_INDEX as INDEX, STATE_MODE as MODE, STATE_NORTHS as NORTHS,
-    STATE_PHASE as PHASE, STATE_RADIUS as RADIUS, STATE_SERIAL as SERIAL, STATE_WORDS,
+    STATE_FINISHED as FINISHED, STATE_INDEX as INDEX, STATE_MODE as MODE, STATE_NORTHS as NORTHS, STATE_PHASE as PHASE,
+    STATE_RADIUS as RADIUS, STATE_SERIAL as SERIAL, STATE_WORDS,
 };
 
 pub type Words = archive::State;
@@ -21,24 +21,12 @@ pub fn of_state(state: &State) -> Words {
         Mode::Fillets => number::MODE_FILLETS,
         Mode::Dubins => number::MODE_DUBINS,
     };
-    let plan = [
-        (SERIAL, state.serial),
-        (MODE, mode),
-        (RADIUS, state.radius),
-        (COUNT, state.count),
-    ];
-    let progress = [
-        (INDEX, state.index),
-        (PHASE, state.phase),
-        (FINISHED, u32::from(state.finished)),
-    ];
+    let plan = [(SERIAL, state.serial), (MODE, mode), (RADIUS, state.radius), (COUNT, state.count)];
+    let progress = [(INDEX, state.index), (PHASE, state.phase), (FINISHED, u32::from(state.finished))];
     for (place, number) in plan.into_iter().chain(progress) {
         words[place] = number as i32;
     }
-    for (part, block) in [NORTHS..EASTS, EASTS..DOWNS, DOWNS..COURSES]
-        .into_iter()
-        .enumerate()
-    {
+    for (part, block) in [NORTHS..EASTS, EASTS..DOWNS, DOWNS..COURSES].into_iter().enumerate() {
         for (word, point) in words[block].iter_mut().zip(&state.points) {
             *word = point[part];
         }
@@ -62,19 +50,10 @@ pub fn to_state(words: &Words) -> Option<State> {
     if !(0..=1).contains(&words[FINISHED]) {
         return None;
     }
-    let mut state = State {
-        serial: words[SERIAL] as u32,
-        mode,
-        count: words[COUNT] as u32,
-        ..State::EMPTY
-    };
-    (state.radius, state.index, state.phase) =
-        (u32::from(radius), words[INDEX] as u32, u32::from(phase));
+    let mut state = State { serial: words[SERIAL] as u32, mode, count: words[COUNT] as u32, ..State::EMPTY };
+    (state.radius, state.index, state.phase) = (u32::from(radius), words[INDEX] as u32, u32::from(phase));
     state.finished = words[FINISHED] == 1;
-    let blocks = words[NORTHS..EASTS]
-        .iter()
-        .zip(&words[EASTS..DOWNS])
-        .zip(&words[DOWNS..COURSES]);
+    let blocks = words[NORTHS..EASTS].iter().zip(&words[EASTS..DOWNS]).zip(&words[DOWNS..COURSES]);
     for (point, ((north, east), down)) in state.points.iter_mut().zip(blocks) {
         *point = [*north, *east, *down];
     }
@@ -94,32 +73,15 @@ fn placed<const N: usize>(places: [usize; N], numbers: [f32; N]) -> CommandNumbe
 }
 
 pub fn of_answer(answer: &Answer) -> (AnswerWords, CommandNumbers) {
-    let (refusal, place) = answer
-        .refusal
-        .map_or((number::ACCEPTED, 0), |r| (r.number, r.place));
+    let (refusal, place) = answer.refusal.map_or((number::ACCEPTED, 0), |r| (r.number, r.place));
     let (kind, sense, command) = match answer.command {
-        Command::None => (
-            number::COMMAND_NONE,
-            number::SENSE_NONE,
-            [0.0; COMMAND_NUMBERS],
-        ),
-        Command::Line {
-            start: s,
-            direction: d,
-        } => (
-            number::COMMAND_LINE,
-            number::SENSE_NONE,
-            placed(LINE, [s[0], s[1], s[2], d[0], d[1], d[2]]),
-        ),
-        Command::Circle {
-            centre: c,
-            radius,
-            sense,
-        } => (
-            number::COMMAND_CIRCLE,
-            sense as u32,
-            placed(CIRCLE, [c[0], c[1], c[2], radius]),
-        ),
+        Command::None => (number::COMMAND_NONE, number::SENSE_NONE, [0.0; COMMAND_NUMBERS]),
+        Command::Line { start: s, direction: d } => {
+            (number::COMMAND_LINE, number::SENSE_NONE, placed(LINE, [s[0], s[1], s[2], d[0], d[1], d[2]]))
+        }
+        Command::Circle { centre: c, radius, sense } => {
+            (number::COMMAND_CIRCLE, sense as u32, placed(CIRCLE, [c[0], c[1], c[2], radius]))
+        }
     };
     let mut words = progress_words(answer.index, answer.phase, u32::from(answer.finished));
     for (place, word) in [

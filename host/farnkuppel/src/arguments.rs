@@ -38,11 +38,7 @@ impl Command {
     pub fn usage(&self) -> String {
         let options = self.options.iter().map(|option| format!(" [{option}]"));
         let files = self.files.iter().map(|file| format!(" {file}"));
-        format!(
-            "farnkuppel {}{}",
-            self.name,
-            files.chain(options).collect::<String>()
-        )
+        format!("farnkuppel {}{}", self.name, files.chain(options).collect::<String>())
     }
 
     fn wrong(&self, what: &str) -> Stop {
@@ -51,9 +47,7 @@ impl Command {
 
     /// Whether an option of the command begins with this word.
     fn takes(&self, word: &str) -> bool {
-        self.options
-            .iter()
-            .any(|option| option.split(' ').next() == Some(word))
+        self.options.iter().any(|option| option.split(' ').next() == Some(word))
     }
 
     /// One option, with the words behind it.
@@ -66,16 +60,10 @@ impl Command {
         let known = word.to_str().filter(|word| self.takes(word));
         match known {
             Some("--reader") => {
-                let value = rest
-                    .next()
-                    .ok_or_else(|| self.wrong("--reader is followed by a version"))?;
+                let value = rest.next().ok_or_else(|| self.wrong("--reader is followed by a version"))?;
                 let reader = value.to_str().and_then(whole);
                 call.reader = reader.ok_or_else(|| {
-                    self.wrong(&format!(
-                        "'{}' is no version of a reader, 0 to {}",
-                        names::file(value),
-                        u32::MAX
-                    ))
+                    self.wrong(&format!("'{}' is no version of a reader, 0 to {}", names::file(value), u32::MAX))
                 })?;
             }
             Some("--bits") => call.bits = true,
@@ -87,12 +75,7 @@ impl Command {
 
     /// What the words ask for. Options stand anywhere before `--`; a single `-` is a file's name like any other.
     pub fn asked(&self, words: &[OsString]) -> Result<Asked, Stop> {
-        let mut call = Call {
-            files: Vec::new(),
-            reader: NEWEST,
-            bits: false,
-            refused: false,
-        };
+        let mut call = Call { files: Vec::new(), reader: NEWEST, bits: false, refused: false };
         let mut rest = words.iter();
         let mut options_end = false;
         while let Some(word) = rest.next() {
@@ -116,10 +99,7 @@ impl Command {
 
 /// The whole number that a word is, in decimal digits behind at most a minus.
 pub fn whole<T: FromStr>(word: &str) -> Option<T> {
-    Some(word)
-        .filter(|word| !word.starts_with('+'))?
-        .parse()
-        .ok()
+    Some(word).filter(|word| !word.starts_with('+'))?.parse().ok()
 }
 
 #[cfg(test)]
@@ -143,16 +123,8 @@ mod tests {
 
     #[test]
     fn options_stand_anywhere() {
-        let call = Call {
-            files: vec!["a".into(), "-b".into()],
-            reader: 1,
-            bits: true,
-            refused: false,
-        };
-        assert_eq!(
-            asked(&["--bits", "a", "--reader", "1", "--", "-b"]),
-            Ok(Asked::Call(call))
-        );
+        let call = Call { files: vec!["a".into(), "-b".into()], reader: 1, bits: true, refused: false };
+        assert_eq!(asked(&["--bits", "a", "--reader", "1", "--", "-b"]), Ok(Asked::Call(call)));
         assert_eq!(asked(&["a", "--help"]), Ok(Asked::Help));
     }
 

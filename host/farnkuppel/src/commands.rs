@@ -9,7 +9,7 @@ use crate::names;
 use crate::output::Target;
 use crate::picture;
 use crate::plan::{self, Plan, Refusal};
-use crate::simulation;
+use crate::simulation::{self, End};
 use crate::stop::{trouble, Answered, Status, Stop};
 use crate::text;
 use archive::number::{INTERFACE, NEWEST};
@@ -26,14 +26,7 @@ pub const COMMANDS: [Command; 9] = [
         help: help::CHECK,
         run: check,
     },
-    Command {
-        name: "list",
-        files: &["PLAN"],
-        options: &[],
-        does: "list a plan's points",
-        help: help::LIST,
-        run: list,
-    },
+    Command { name: "list", files: &["PLAN"], options: &[], does: "list a plan's points", help: help::LIST, run: list },
     Command {
         name: "notes",
         files: &["PLAN"],
@@ -116,11 +109,7 @@ fn check(call: &Call, out: &mut dyn Write) -> Answered {
         return Ok(Status::Refused);
     };
     let (serial, mode, points) = (plan.serial(), plan.mode().name(), plan.points().len());
-    writeln!(
-        out,
-        "loads: serial {serial}, version {}, mode {mode}, {points} points",
-        plan.version
-    )?;
+    writeln!(out, "loads: serial {serial}, version {}, mode {mode}, {points} points", plan.version)?;
     Ok(Status::Done)
 }
 
@@ -138,10 +127,7 @@ fn notes(call: &Call, out: &mut dyn Write) -> Answered {
         return Ok(Status::Refused);
     }
     let numbered = plan::notes(&file).into_iter().enumerate();
-    lines(
-        out,
-        numbered.map(|(i, note)| format!("{} {}", i + 1, names::note(&note))),
-    )
+    lines(out, numbered.map(|(i, note)| format!("{} {}", i + 1, names::note(&note))))
 }
 
 fn print_text(call: &Call, out: &mut dyn Write) -> Answered {
@@ -198,22 +184,12 @@ fn fly(call: &Call, out: &mut dyn Write) -> Answered {
     let Some(plan) = loaded(&file, call.reader, out)? else {
         return Ok(Status::Refused);
     };
-    let numbers = if call.bits {
-        Numbers::Bits
-    } else {
-        Numbers::Metres
-    };
+    let numbers = if call.bits { Numbers::Bits } else { Numbers::Metres };
     if !call.bits {
         writeln!(out, "{COLUMNS}")?;
     }
     let mut flight = Flight::of(&plan);
-    lines(
-        out,
-        fixes
-            .iter()
-            .enumerate()
-            .map(|(i, fix)| flight.fix(fix).line(i + 1, numbers)),
-    )
+    lines(out, fixes.iter().enumerate().map(|(i, fix)| flight.fix(fix).line(i + 1, numbers)))
 }
 
 fn simulate(call: &Call, out: &mut dyn Write) -> Answered {
@@ -224,17 +200,12 @@ fn simulate(call: &Call, out: &mut dyn Write) -> Answered {
     };
     let flown = simulation::fly(&plan, call.refused);
     target.write(&fixes::file(&flown.fixes))?;
-    let end = if flown.finished {
-        "finished"
-    } else {
-        "not finished"
+    let end = match flown.end {
+        End::Finished => "finished".to_string(),
+        End::GivenUp => "not finished".to_string(),
+        End::Refused(refusal) => format!("not finished: the last fix is {refusal}"),
     };
-    writeln!(
-        out,
-        "written: {}, {}, {end}",
-        target.name,
-        counted(&flown.fixes)
-    )?;
+    writeln!(out, "written: {}, {}, {end}", target.name, counted(&flown.fixes))?;
     Ok(Status::Done)
 }
 
@@ -253,10 +224,7 @@ fn draw(call: &Call, out: &mut dyn Write) -> Answered {
 fn version(out: &mut dyn Write) -> Answered {
     let [autopilot, desk] = calls::interfaces();
     writeln!(out, "farnkuppel {RELEASE}")?;
-    writeln!(
-        out,
-        "interface {INTERFACE} (libautopilot.a {autopilot}, libdesk.a {desk})"
-    )?;
+    writeln!(out, "interface {INTERFACE} (libautopilot.a {autopilot}, libdesk.a {desk})")?;
     writeln!(out, "plan files of versions 1 to {NEWEST}")?;
     Ok(Status::Done)
 }
@@ -266,20 +234,15 @@ fn same_interface() -> Result<(), Stop> {
     let [autopilot, desk] = calls::interfaces();
     match [autopilot, desk] == [INTERFACE; 2] {
         true => Ok(()),
-        false => Err(trouble(&format!("libautopilot.a has interface {autopilot}, libdesk.a {desk}; the header has {INTERFACE}"))),
+        false => Err(trouble(&format!(
+            "libautopilot.a has interface {autopilot}, libdesk.a {desk}; the header has {INTERFACE}"
+        ))),
     }
 }
 
 fn command(name: &OsString) -> Result<&'static Command, Stop> {
-    let found = COMMANDS
-        .iter()
-        .find(|command| name.to_str() == Some(command.name));
-    found.ok_or_else(|| {
-        trouble(&format!(
-            "no command '{}'; farnkuppel --help lists them",
-            names::file(name)
-        ))
-    })
+    let found = COMMANDS.iter().find(|command| name.to_str() == Some(command.name));
+    found.ok_or_else(|| trouble(&format!("no command '{}'; farnkuppel --help lists them", names::file(name))))
 }
 
 fn print(text: &str, out: &mut dyn Write) -> Answered {
@@ -296,10 +259,9 @@ pub fn run(words: &[OsString], out: &mut dyn Write) -> Answered {
         (Some("--help" | "-h" | "help"), []) => print(&help::all(&COMMANDS), out),
         (Some("help"), [name]) => print(&help::one(command(name)?), out),
         (Some("--version"), []) => version(out),
-        (Some("--help" | "-h" | "help" | "--version"), [.., spare]) => Err(trouble(&format!(
-            "'{}' is one too many",
-            names::file(spare)
-        ))),
+        (Some("--help" | "-h" | "help" | "--version"), [.., spare]) => {
+            Err(trouble(&format!("'{}' is one too many", names::file(spare))))
+        }
         _ => {
             let command = command(first)?;
             match command.asked(rest)? {

@@ -23,25 +23,15 @@ impl Fix {
     pub fn bytes(&self) -> [u8; FIX_BYTES] {
         let [north, east, down] = self.position.map(f32::to_bits);
         let mut bytes = [0; FIX_BYTES];
-        for (place, word) in bytes
-            .chunks_exact_mut(WORD)
-            .zip([self.serial, north, east, down])
-        {
+        for (place, word) in bytes.chunks_exact_mut(WORD).zip([self.serial, north, east, down]) {
             place.copy_from_slice(&word.to_be_bytes());
         }
         bytes
     }
 
     fn of_bytes(bytes: &[u8]) -> Fix {
-        let word = |i: usize| {
-            bytes[i * WORD..][..WORD]
-                .iter()
-                .fold(0, |word, byte| word << 8 | u32::from(*byte))
-        };
-        Fix {
-            serial: word(0),
-            position: [1, 2, 3].map(|i| f32::from_bits(word(i))),
-        }
+        let word = |i: usize| bytes[i * WORD..][..WORD].iter().fold(0, |word, byte| word << 8 | u32::from(*byte));
+        Fix { serial: word(0), position: [1, 2, 3].map(|i| f32::from_bits(word(i))) }
     }
 }
 
@@ -49,26 +39,18 @@ impl Fix {
 pub fn read(input: &Input) -> Result<Vec<Fix>, Stop> {
     let bytes = input.bytes(MOST_FIXES * FIX_BYTES + 1)?;
     if bytes.len() > MOST_FIXES * FIX_BYTES {
-        return Err(trouble(&format!(
-            "{}: more than {MOST_FIXES} fixes",
-            input.name
-        )));
+        return Err(trouble(&format!("{}: more than {MOST_FIXES} fixes", input.name)));
     }
     let fixes = bytes.chunks_exact(FIX_BYTES);
     if !fixes.remainder().is_empty() {
-        return Err(trouble(&format!(
-            "{}: fix {} is cut short",
-            input.name,
-            bytes.len() / FIX_BYTES + 1
-        )));
+        return Err(trouble(&format!("{}: fix {} is cut short", input.name, bytes.len() / FIX_BYTES + 1)));
     }
     Ok(fixes.map(Fix::of_bytes).collect())
 }
 
 /// A number in metres, as Rust reads an f32: nan and inf are among them.
 fn metres(word: &str) -> Result<f32, String> {
-    word.parse()
-        .map_err(|_| format!("'{word}' is no number of metres"))
+    word.parse().map_err(|_| format!("'{word}' is no number of metres"))
 }
 
 /// The fix of a line `SERIAL NORTH EAST DOWN`.
@@ -77,16 +59,8 @@ fn fix_of(line: &str) -> Result<Fix, String> {
     let [serial, north, east, down] = words[..] else {
         return Err("not a fix: SERIAL NORTH EAST DOWN".to_string());
     };
-    let serial = whole(serial).ok_or_else(|| {
-        format!(
-            "serial '{serial}' is no whole number from 0 to {}",
-            u32::MAX
-        )
-    })?;
-    Ok(Fix {
-        serial,
-        position: [metres(north)?, metres(east)?, metres(down)?],
-    })
+    let serial = whole(serial).ok_or_else(|| format!("serial '{serial}' is no whole number from 0 to {}", u32::MAX))?;
+    Ok(Fix { serial, position: [metres(north)?, metres(east)?, metres(down)?] })
 }
 
 /// The fixes of a text.
@@ -128,14 +102,7 @@ mod tests {
 
     #[test]
     fn lines_that_are_no_fix() {
-        for line in [
-            "1 2 3",
-            "1 2 3 4 5",
-            "-1 2 3 4",
-            "x 2 3 4",
-            "1 2 3 4m",
-            "4294967296 0 0 0",
-        ] {
+        for line in ["1 2 3", "1 2 3 4 5", "-1 2 3 4", "x 2 3 4", "1 2 3 4m", "4294967296 0 0 0"] {
             assert!(fix_of(line).is_err(), "{line}");
         }
     }

@@ -4,8 +4,8 @@ use crate::fixes::Fix;
 use crate::plan::{Plan, Refusal};
 use archive::number::{ACCEPTED, COMMAND_CIRCLE, COMMAND_LINE};
 use archive::size::{
-    ANSWER_FINISHED, ANSWER_HEADING, ANSWER_INDEX, ANSWER_KIND, ANSWER_PHASE, ANSWER_PLACE,
-    ANSWER_REFUSAL, ANSWER_SENSE, ANSWER_WORDS, COMMAND_NUMBERS,
+    ANSWER_FINISHED, ANSWER_HEADING, ANSWER_INDEX, ANSWER_KIND, ANSWER_PHASE, ANSWER_PLACE, ANSWER_REFUSAL,
+    ANSWER_SENSE, ANSWER_WORDS, COMMAND_NUMBERS,
 };
 use archive::{calls, refusal_words, Answer, Command, State, CIRCLE, LINE};
 
@@ -32,7 +32,8 @@ pub enum Numbers {
 }
 
 /// What the columns of a flight are.
-pub const COLUMNS: &str = "# fix NUMBER, line START DIRECTION or circle CENTRE RADIUS sense SENSE (1 clockwise, -1 anticlockwise): north, \
+pub const COLUMNS: &str =
+    "# fix NUMBER, line START DIRECTION or circle CENTRE RADIUS sense SENSE (1 clockwise, -1 anticlockwise): north, \
 east, down in metres; heading in 1/4096 of a circle, clockwise from north; index, phase, finished: after the fix";
 
 /// The state of a flight.
@@ -46,27 +47,15 @@ impl Flight {
     }
 
     pub fn fix(&mut self, fix: &Fix) -> Answered {
-        let mut answered = Answered {
-            words: [0; ANSWER_WORDS],
-            numbers: [0.0; COMMAND_NUMBERS],
-        };
-        calls::fix(
-            &mut self.state,
-            fix.serial,
-            fix.position,
-            &mut answered.words,
-            &mut answered.numbers,
-        );
+        let mut answered = Answered { words: [0; ANSWER_WORDS], numbers: [0.0; COMMAND_NUMBERS] };
+        calls::fix(&mut self.state, fix.serial, fix.position, &mut answered.words, &mut answered.numbers);
         answered
     }
 }
 
 impl Answered {
     pub fn refusal(&self) -> Option<Refusal> {
-        let refusal = Refusal {
-            number: self.words[ANSWER_REFUSAL],
-            place: self.words[ANSWER_PLACE],
-        };
+        let refusal = Refusal { number: self.words[ANSWER_REFUSAL], place: self.words[ANSWER_PLACE] };
         Some(refusal).filter(|refusal| refusal.number != ACCEPTED)
     }
 
@@ -112,11 +101,7 @@ impl Answered {
 
     /// The line of the fix with a number. In bits it is the line that the program `fly` prints; in metres a refusal is said in words too.
     pub fn line(&self, number: usize, numbers: Numbers) -> String {
-        let (index, phase, finished) = (
-            self.words[ANSWER_INDEX],
-            self.phase(),
-            self.words[ANSWER_FINISHED],
-        );
+        let (index, phase, finished) = (self.words[ANSWER_INDEX], self.phase(), self.words[ANSWER_FINISHED]);
         let guided = self.guided(numbers);
         let line = format!("fix {number} {guided} index {index} phase {phase} finished {finished}");
         match (numbers, self.refusal()) {

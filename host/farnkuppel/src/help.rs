@@ -70,7 +70,8 @@ The exit status is 0 where the plan loads, whatever its fixes are answered. A FI
 
 pub const SIMULATE: &str = "\
 Flies a simulated aircraft along PLAN, from its first point until the plan is finished, and writes the fixes, ten a second, to FIXES.
-It says so where the flight is given up: after eight times the length of the plan's legs.
+The answer says whether it was finished: a flight ends early where the aircraft leaves the range of fixes, and is given up after eight
+times the length of the plan's legs. The exit status is 0 all the same.
 
   --refused     puts fixes among them that are refused: some name another plan, some have a north that is no number
 ";
@@ -84,10 +85,7 @@ phase, and crosses where fixes were refused.
 pub fn all(commands: &[Command]) -> String {
     let usages: Vec<String> = commands.iter().map(Command::usage).collect();
     let wide = usages.iter().map(String::len).max().unwrap_or(0);
-    let rows = usages
-        .iter()
-        .zip(commands)
-        .map(|(usage, command)| format!("  {usage:wide$}  {}\n", command.does));
+    let rows = usages.iter().zip(commands).map(|(usage, command)| format!("  {usage:wide$}  {}\n", command.does));
     INTRODUCTION.to_string() + &rows.collect::<String>() + COMMON
 }
 

@@ -26,11 +26,7 @@ impl Input {
         if about.is_dir() {
             return Err(trouble(&format!("{shown}: is a directory")));
         }
-        Ok(Input {
-            name: shown,
-            identity: (about.dev(), about.ino()),
-            file,
-        })
+        Ok(Input { name: shown, identity: (about.dev(), about.ino()), file })
     }
 
     /// The file's bytes, so many at most.
@@ -47,17 +43,12 @@ impl Input {
     }
 
     /// Gives each line of a text with its number, but for blank ones and comments. What is wrong with a line is said with its place.
-    pub fn each_line(
-        &self,
-        mut take: impl FnMut(usize, &str) -> Result<(), String>,
-    ) -> Result<(), Stop> {
+    pub fn each_line(&self, mut take: impl FnMut(usize, &str) -> Result<(), String>) -> Result<(), Stop> {
         let mut reader = BufReader::new(&self.file);
         let mut number = 0;
         loop {
             let mut line = Vec::new();
-            let part = (&mut reader)
-                .take(LONGEST_LINE as u64 + 1)
-                .read_until(b'\n', &mut line);
+            let part = (&mut reader).take(LONGEST_LINE as u64 + 1).read_until(b'\n', &mut line);
             if part.map_err(|error| of_file(&self.name, &error))? == 0 {
                 return Ok(());
             }

@@ -78,21 +78,9 @@ mod tests {
         assert_eq!(draft.put(RADIUS, &[0, 200]), 11);
         assert_eq!(draft.put(NOTE, b"hill"), 15);
         let file = draft.file();
-        assert_eq!(
-            file,
-            *b"WPL\x00\x02\x01\x02\x03\x04\x00\x0A\x02\x02\x00\xC8\x80\x04hill"
-        );
+        assert_eq!(file, *b"WPL\x00\x02\x01\x02\x03\x04\x00\x0A\x02\x02\x00\xC8\x80\x04hill");
         assert_eq!(version(&file), 2);
-        let expected = [
-            Record {
-                kind: 2,
-                body: &[0, 200],
-            },
-            Record {
-                kind: 128,
-                body: b"hill",
-            },
-        ];
+        let expected = [Record { kind: 2, body: &[0, 200] }, Record { kind: 128, body: b"hill" }];
         assert_eq!(records(&file), expected);
     }
 }

@@ -23,9 +23,7 @@ fn objection(about: &Metadata, inputs: &[&Input]) -> Option<&'static str> {
     match about {
         _ if about.is_dir() => Some("is a directory"),
         _ if !about.is_file() => Some("is no regular file"),
-        _ if inputs.iter().any(|input| input.identity == identity) => {
-            Some("is an input, and is not written over")
-        }
+        _ if inputs.iter().any(|input| input.identity == identity) => Some("is an input, and is not written over"),
         _ if about.permissions().readonly() => Some("is read-only"),
         _ => None,
     }
@@ -35,9 +33,7 @@ fn objection(about: &Metadata, inputs: &[&Input]) -> Option<&'static str> {
 fn new_objection(path: &Path) -> Option<&'static str> {
     match path.file_name() {
         None => Some("names no file"),
-        _ if path.as_os_str().as_encoded_bytes().ends_with(b"/") => {
-            Some("names a folder that is not there")
-        }
+        _ if path.as_os_str().as_encoded_bytes().ends_with(b"/") => Some("names a folder that is not there"),
         _ if path.is_symlink() => Some("is a link to nothing"),
         _ if !folder_of(path).is_dir() => Some("its folder is not there"),
         _ => None,
@@ -46,9 +42,7 @@ fn new_objection(path: &Path) -> Option<&'static str> {
 
 /// The folder that a file stands in.
 fn folder_of(path: &Path) -> &Path {
-    path.parent()
-        .filter(|folder| !folder.as_os_str().is_empty())
-        .unwrap_or(Path::new("."))
+    path.parent().filter(|folder| !folder.as_os_str().is_empty()).unwrap_or(Path::new("."))
 }
 
 /// A new file in a folder.
@@ -76,20 +70,13 @@ impl Target {
             None => new_objection(Path::new(name)),
         };
         if let Some(what) = objection {
-            return Err(trouble(&format!(
-                "{}: {what}",
-                if shown.is_empty() { "''" } else { &shown }
-            )));
+            return Err(trouble(&format!("{}: {what}", if shown.is_empty() { "''" } else { &shown })));
         }
         let path = match &standing {
             Some(_) => fs::canonicalize(name).map_err(|error| of_file(&shown, &error))?,
             None => PathBuf::from(name),
         };
-        Ok(Target {
-            name: shown,
-            path,
-            permissions: standing.map(|about| about.permissions()),
-        })
+        Ok(Target { name: shown, path, permissions: standing.map(|about| about.permissions()) })
     }
 
     /// Writes the file under another name beside its place, and puts it there once it is whole.
@@ -100,9 +87,7 @@ impl Target {
             .write_all(bytes)
             .and_then(|()| file.sync_all())
             .and_then(|()| {
-                self.permissions
-                    .iter()
-                    .try_for_each(|as_before| fs::set_permissions(&path, as_before.clone()))
+                self.permissions.iter().try_for_each(|as_before| fs::set_permissions(&path, as_before.clone()))
             })
             .and_then(|()| fs::rename(&path, &self.path));
         written.map_err(|error| {

@@ -3,9 +3,9 @@
 use crate::layout;
 use archive::number::{ACCEPTED, MODE_DUBINS, MODE_FILLETS};
 use archive::size::{
-    LOAD_PLACE, LOAD_WORDS, NOTE_BYTES, NOTE_LENGTH, NOTE_WORDS, STATE_COUNT, STATE_COURSES,
-    STATE_DOWNS, STATE_EASTS, STATE_MODE, STATE_NORTHS, STATE_RADIUS, STATE_SERIAL, STATE_WORDS,
-    WRITE_LENGTH, WRITE_PLACE, WRITE_WORDS, WRITTEN_BYTES,
+    LOAD_PLACE, LOAD_WORDS, NOTE_BYTES, NOTE_LENGTH, NOTE_WORDS, STATE_COUNT, STATE_COURSES, STATE_DOWNS, STATE_EASTS,
+    STATE_MODE, STATE_NORTHS, STATE_RADIUS, STATE_SERIAL, STATE_WORDS, WRITE_LENGTH, WRITE_PLACE, WRITE_WORDS,
+    WRITTEN_BYTES,
 };
 use archive::{calls, refusal_words, State};
 use std::fmt::{self, Display};
@@ -19,13 +19,7 @@ pub struct Refusal {
 
 impl Display for Refusal {
     fn fmt(&self, f: &mut fmt::Formatter) -> fmt::Result {
-        write!(
-            f,
-            "refused {} at {}: {}",
-            self.number,
-            self.place,
-            refusal_words(self.number)
-        )
+        write!(f, "refused {} at {}: {}", self.number, self.place, refusal_words(self.number))
     }
 }
 
@@ -65,14 +59,8 @@ impl Plan {
         let mut state = [0; STATE_WORDS];
         let mut answer = [0; LOAD_WORDS];
         match calls::load(file, reader, &mut state, &mut answer) {
-            ACCEPTED => Ok(Plan {
-                version: layout::version(file),
-                state,
-            }),
-            number => Err(Refusal {
-                number,
-                place: answer[LOAD_PLACE],
-            }),
+            ACCEPTED => Ok(Plan { version: layout::version(file), state }),
+            number => Err(Refusal { number, place: answer[LOAD_PLACE] }),
         }
     }
 
@@ -85,10 +73,7 @@ impl Plan {
                 file.truncate(answer[WRITE_LENGTH] as usize);
                 Ok(file)
             }
-            number => Err(Refusal {
-                number,
-                place: answer[WRITE_PLACE],
-            }),
+            number => Err(Refusal { number, place: answer[WRITE_PLACE] }),
         }
     }
 
@@ -129,8 +114,5 @@ pub fn notes(file: &[u8]) -> Vec<Vec<u8>> {
         bytes.truncate(answer[NOTE_LENGTH] as usize);
         bytes
     };
-    (1..)
-        .map(note)
-        .take_while(|bytes| !bytes.is_empty())
-        .collect()
+    (1..).map(note).take_while(|bytes| !bytes.is_empty()).collect()
 }

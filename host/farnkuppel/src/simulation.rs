@@ -4,7 +4,7 @@
 use crate::fixes::{Fix, MOST_FIXES};
 use crate::flight::{Flight, Path};
 use crate::picture::Place;
-use crate::plan::Plan;
+use crate::plan::{Plan, Point, Refusal};
 use archive::number::CIRCLE;
 use std::f64::consts::{PI, TAU};
 
@@ -25,7 +25,7 @@ const SPARE_METRES: f64 = 2000.0;
 const OTHER_SERIAL: usize = 97;
 const NO_NUMBER: usize = 131;
 
-/// Metres, radians clockwise from north, and radians from one fix to the next.
+/// Metres, radians clockwise from north, and radians to turn by until the next fix.
 struct Aircraft {
     north: f64,
     east: f64,
@@ -34,10 +34,17 @@ struct Aircraft {
     turn: f64,
 }
 
-/// The fixes of a flight, and whether it came to the plan's end.
+/// How a flight ends: with the plan, with a fix that is refused because the aircraft left the range of fixes, or given up.
+pub enum End {
+    Finished,
+    Refused(Refusal),
+    GivenUp,
+}
+
+/// The fixes of a flight, and its end.
 pub struct Simulated {
     pub fixes: Vec<Fix>,
-    pub finished: bool,
+    pub end: End,
 }
 
 /// The height of a path where the aircraft is over it. A line's is that of the leg, from its start to its end.
@@ -59,20 +66,11 @@ impl Aircraft {
     fn over(places: &[(Place, f64)]) -> Aircraft {
         let ((first, down), (second, _)) = (places[0], places[1]);
         let heading = (second.east - first.east).atan2(second.north - first.north);
-        Aircraft {
-            north: first.north,
-            east: first.east,
-            down,
-            heading,
-            turn: 0.0,
-        }
+        Aircraft { north: first.north, east: first.east, down, heading, turn: 0.0 }
     }
 
     fn fix(&self, serial: u32) -> Fix {
-        Fix {
-            serial,
-            position: [self.north, self.east, self.down].map(|metres| metres as f32),
-        }
+        Fix { serial, position: [self.north, self.east, self.down].map(|metres| metres as f32) }
     }
 
     /// Turns toward a heading the short way, by so much at most.
@@ -92,68 +90,45 @@ impl Aircraft {
 
 /// The radians between two fixes that the aircraft can turn by.
 fn most_turn(plan: &Plan) -> f64 {
-    let asked = plan
-        .radius()
-        .map_or(0.0, |radius| SPARE_TURN * SPEED / Place::metres(radius));
+    let asked = plan.radius().map_or(0.0, |radius| SPARE_TURN * SPEED / Place::metres(radius));
     TURN.max(asked) / FIXES_A_SECOND
 }
 
-/// How many fixes a flight has at the most.
+/// How many fixes a flight has at the most, without strays, which are fewer.
 fn most_fixes(places: &[(Place, f64)]) -> usize {
-    let legs: f64 = places
-        .windows(2)
-        .map(|leg| leg[0].0.distance(leg[1].0))
-        .sum();
+    let legs: f64 = places.windows(2).map(|leg| leg[0].0.distance(leg[1].0)).sum();
     let fixes = (MOST_LEGS * legs + SPARE_METRES) / SPEED * FIXES_A_SECOND;
-    (fixes as usize).min(MOST_FIXES)
+    (fixes as usize).min(MOST_FIXES / 2)
 }
 
 /// The fixes that are refused on purpose behind an accepted one.
 fn strays(count: usize, fix: Fix) -> impl Iterator<Item = Fix> {
     let [_, east, down] = fix.position;
-    let other = Fix {
-        serial: fix.serial.wrapping_add(1),
-        ..fix
-    };
-    let none = Fix {
-        position: [f32::NAN, east, down],
-        ..fix
-    };
+    let other = Fix { serial: fix.serial.wrapping_add(1), ..fix };
+    let none = Fix { position: [f32::NAN, east, down], ..fix };
     [(OTHER_SERIAL, other), (NO_NUMBER, none)]
         .into_iter()
         .filter(move |(every, _)| count % every == 0)
         .map(|(_, stray)| stray)
 }
 
-/// Flies until the library says finished, with strays among the fixes where they are asked for. A fix that is refused for its own sake, out of the
-/// range of fixes, is one more of the same turn.
+/// Flies until the library says finished, with strays among the fixes where they are asked for.
 pub fn fly(plan: &Plan, with_strays: bool) -> Simulated {
-    let places: Vec<(Place, f64)> = plan
-        .points()
-        .iter()
-        .map(|point| (Place::of(point), Place::metres(point.down)))
-        .collect();
+    let place = |point: &Point| (Place::of(point), Place::metres(point.down));
+    let places: Vec<(Place, f64)> = plan.points().iter().map(place).collect();
     let (mut plane, mut flight) = (Aircraft::over(&places), Flight::of(plan));
-    let mut simulated = Simulated {
-        fixes: Vec::new(),
-        finished: false,
-    };
-    let most = most_fixes(&places);
-    for count in 1.. {
+    let mut simulated = Simulated { fixes: Vec::new(), end: End::GivenUp };
+    for count in 1..=most_fixes(&places) {
         let fix = plane.fix(plan.serial());
         simulated.fixes.push(fix);
-        if with_strays {
-            simulated.fixes.extend(strays(count, fix));
-        }
+        simulated.fixes.extend(strays(count, fix).filter(|_| with_strays));
         let answer = flight.fix(&fix);
-        simulated.finished = answer.finished();
-        if simulated.finished || simulated.fixes.len() >= most {
+        if let Some(end) = answer.refusal().map(End::Refused).or(answer.finished().then_some(End::Finished)) {
+            simulated.end = end;
             break;
         }
-        if answer.refusal().is_none() {
-            plane.turn_to(answer.heading(), most_turn(plan));
-            plane.down = height(&answer.path(), &plane);
-        }
+        plane.turn_to(answer.heading(), most_turn(plan));
+        plane.down = height(&answer.path(), &plane);
         plane.advance();
     }
     simulated

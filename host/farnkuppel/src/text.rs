@@ -12,26 +12,14 @@ use std::fmt::Display;
 /// The first line of a plan's listing.
 fn title(plan: &Plan) -> String {
     let (serial, mode) = (plan.serial(), plan.mode().name());
-    format!(
-        "plan {serial} version {} mode {mode} points {}",
-        plan.version,
-        plan.points().len()
-    )
+    format!("plan {serial} version {} mode {mode} points {}", plan.version, plan.points().len())
 }
 
 /// The lines of a plan's points.
 fn point_lines(plan: &Plan) -> impl Iterator<Item = String> {
     plan.points().into_iter().enumerate().map(|(i, point)| {
-        let course = point
-            .course
-            .map_or("-".to_string(), |course| course.to_string());
-        format!(
-            "{} {} {} {} {course}",
-            i + 1,
-            point.north,
-            point.east,
-            point.down
-        )
+        let course = point.course.map_or("-".to_string(), |course| course.to_string());
+        format!("{} {} {} {} {course}", i + 1, point.north, point.east, point.down)
     })
 }
 
@@ -50,14 +38,8 @@ pub fn whole_text(plan: &Plan, file: &[u8]) -> Vec<String> {
             (POINT, _) => lines.extend(points.next()),
             (RADIUS, _) => lines.extend(plan.radius().map(|radius| format!("radius {radius}"))),
             (COURSE, _) => {}
-            (NOTE, _) => lines.extend(
-                notes
-                    .next()
-                    .map(|(i, note)| format!("# note {} {}", i + 1, names::note(&note))),
-            ),
-            (SPEED, [high, low]) => {
-                lines.push(format!("# speed {}", u16::from_be_bytes([*high, *low])))
-            }
+            (NOTE, _) => lines.extend(notes.next().map(|(i, note)| format!("# note {} {}", i + 1, names::note(&note)))),
+            (SPEED, [high, low]) => lines.push(format!("# speed {}", u16::from_be_bytes([*high, *low]))),
             (kind, body) => lines.push(format!("# kind {kind}, {} bytes", body.len())),
         }
     }
@@ -82,21 +64,14 @@ struct Reading {
 }
 
 /// A number of a line, with its name.
-fn number_of<T: std::str::FromStr + Display>(
-    name: &str,
-    word: &str,
-    least: T,
-    most: T,
-) -> Result<T, String> {
+fn number_of<T: std::str::FromStr + Display>(name: &str, word: &str, least: T, most: T) -> Result<T, String> {
     whole(word).ok_or_else(|| format!("{name} '{word}' is no whole number from {least} to {most}"))
 }
 
 /// The first line.
 fn read_title(line: usize, words: &[&str]) -> Result<Reading, String> {
     let ["plan", serial, "version", version, "mode", mode, "points", count] = words else {
-        return Err(
-            "a text starts with 'plan SERIAL version VERSION mode MODE points COUNT'".to_string(),
-        );
+        return Err("a text starts with 'plan SERIAL version VERSION mode MODE points COUNT'".to_string());
     };
     let serial = number_of("serial", serial, 0, u32::MAX)?;
     let version = number_of("version", version, 0, u16::MAX)?;
@@ -106,19 +81,8 @@ fn read_title(line: usize, words: &[&str]) -> Result<Reading, String> {
     let count = number_of("count", count, 0, u32::MAX)? as usize;
     let mode = mode.to_string();
     let (file, record_lines, point_lines) = (Vec::new(), Vec::new(), Vec::new());
-    let written = Written {
-        version,
-        file,
-        mode,
-        title_line: line,
-        record_lines,
-        point_lines,
-    };
-    Ok(Reading {
-        draft: Draft::new(version, serial),
-        count,
-        written,
-    })
+    let written = Written { version, file, mode, title_line: line, record_lines, point_lines };
+    Ok(Reading { draft: Draft::new(version, serial), count, written })
 }
 
 impl Reading {
@@ -129,9 +93,7 @@ impl Reading {
 
     fn read_point(&mut self, line: usize, words: &[&str]) -> Result<(), String> {
         let [number, north, east, down, course] = words else {
-            return Err(
-                "neither 'radius R' nor a point 'NUMBER NORTH EAST DOWN COURSE'".to_string(),
-            );
+            return Err("neither 'radius R' nor a point 'NUMBER NORTH EAST DOWN COURSE'".to_string());
         };
         let next = self.written.point_lines.len() + 1;
         if whole(number) != Some(next) {
@@ -143,11 +105,7 @@ impl Reading {
         }
         self.put(line, POINT, &body);
         if *course != "-" {
-            self.put(
-                line,
-                COURSE,
-                &number_of("course", course, 0, u16::MAX)?.to_be_bytes(),
-            );
+            self.put(line, COURSE, &number_of("course", course, 0, u16::MAX)?.to_be_bytes());
         }
         self.written.point_lines.push(line);
         Ok(())
@@ -157,11 +115,7 @@ impl Reading {
     fn read_line(&mut self, line: usize, words: &[&str]) -> Result<(), String> {
         match words {
             ["radius", radius] => {
-                self.put(
-                    line,
-                    RADIUS,
-                    &number_of("radius", radius, 0, u16::MAX)?.to_be_bytes(),
-                );
+                self.put(line, RADIUS, &number_of("radius", radius, 0, u16::MAX)?.to_be_bytes());
                 Ok(())
             }
             _ => self.read_point(line, words),
@@ -179,22 +133,12 @@ pub fn read(input: &Input) -> Result<Written, Stop> {
             None => read_title(line, &words).map(|title| reading = Some(title)),
         }
     })?;
-    let Reading {
-        draft,
-        count,
-        written,
-    } = reading.ok_or_else(|| input.wrong(1, "a text without a line"))?;
+    let Reading { draft, count, written } = reading.ok_or_else(|| input.wrong(1, "a text without a line"))?;
     let found = written.point_lines.len();
     if found != count {
-        return Err(input.wrong(
-            written.title_line,
-            &format!("says {count} points, and {found} follow"),
-        ));
+        return Err(input.wrong(written.title_line, &format!("says {count} points, and {found} follow")));
     }
-    Ok(Written {
-        file: draft.file(),
-        ..written
-    })
+    Ok(Written { file: draft.file(), ..written })
 }
 
 impl Written {
@@ -216,11 +160,9 @@ impl Written {
         let place = refusal.place as usize;
         match refusal.number {
             number::REFUSED_NO_VERSION | number::REFUSED_NO_SERIAL => Some(self.title_line),
-            number::REFUSED_WRONG_RECORD => self
-                .record_lines
-                .iter()
-                .find(|(offset, _)| *offset == place)
-                .map(|(_, line)| *line),
+            number::REFUSED_WRONG_RECORD => {
+                self.record_lines.iter().find(|(offset, _)| *offset == place).map(|(_, line)| *line)
+            }
             number::REFUSED_EQUAL_NEIGHBOURS
             | number::REFUSED_SHARP_CORNER
             | number::REFUSED_SHORT_LEG

@@ -1,6 +1,6 @@
 //! What stands beside the map: the phases of the plan's mode, the signs, the scale and north.
 
-use super::frame::{Frame, BOTTOM, RIGHT, TOP};
+use super::frame::{Frame, TOP};
 use super::track::Track;
 use crate::plan::{Mode, Plan};
 use archive::number::{
@@ -22,29 +22,23 @@ const PINK: &str = "#cc79a7";
 const RED: &str = "#d55e00";
 
 const fn phase(number: u32, name: &'static str, colour: &'static str) -> Phase {
-    Phase {
-        number,
-        name,
-        colour,
-    }
+    Phase { number, name, colour }
 }
 
 const LINES: &[Phase] = &[phase(PHASE_LINES_LINE, "line", BLUE)];
-const FILLETS: &[Phase] = &[
-    phase(PHASE_FILLETS_LINE, "line", BLUE),
-    phase(PHASE_FILLETS_CIRCLE, "corner", ORANGE),
-];
+const FILLETS: &[Phase] =
+    &[phase(PHASE_FILLETS_LINE, "line", BLUE), phase(PHASE_FILLETS_CIRCLE, "corner circle", ORANGE)];
 const DUBINS: &[Phase] = &[
-    phase(PHASE_DUBINS_START_FIRST, "first circle", BLUE),
-    phase(PHASE_DUBINS_START_LAST, "its last half", ORANGE),
+    phase(PHASE_DUBINS_START_FIRST, "start circle", BLUE),
+    phase(PHASE_DUBINS_START_LAST, "start circle", ORANGE),
     phase(PHASE_DUBINS_LINE, "line", GREEN),
-    phase(PHASE_DUBINS_END_FIRST, "second circle", PINK),
-    phase(PHASE_DUBINS_END_LAST, "its last half", RED),
+    phase(PHASE_DUBINS_END_FIRST, "end circle", PINK),
+    phase(PHASE_DUBINS_END_LAST, "end circle", RED),
 ];
 
-/// Where the legend starts, where its words start, and the height of its rows.
-const LEFT: f64 = RIGHT + 16.0;
-const WORDS: f64 = LEFT + 38.0;
+/// The pixels from the map to the legend, from there to its words, and from row to row.
+const GAP: f64 = 16.0;
+const INDENT: f64 = 38.0;
 const ROW: f64 = 22.0;
 
 /// The line that stands for lines.
@@ -64,43 +58,33 @@ fn phases(mode: Mode) -> &'static [Phase] {
 
 /// The colour of a phase. The library answers no other than the mode's.
 pub fn colour(mode: Mode, phase: u32) -> &'static str {
-    phases(mode)
-        .iter()
-        .find(|of| of.number == phase)
-        .map_or(BLUE, |of| of.colour)
+    phases(mode).iter().find(|of| of.number == phase).map_or(BLUE, |of| of.colour)
 }
 
 /// A cross as the data of a path.
 pub fn cross(x: f64, y: f64) -> String {
     let size = 2.0 * CROSS;
-    format!(
-        "M{:.1} {:.1}l{size} {size}m-{size} 0l{size}-{size}",
-        x - CROSS,
-        y - CROSS
-    )
+    format!("M{:.1} {:.1}l{size} {size}m-{size} 0l{size}-{size}", x - CROSS, y - CROSS)
 }
 
 /// Rows from the top of the map down.
 struct Rows {
     svg: String,
+    x: f64,
     y: f64,
 }
 
 impl Rows {
     fn heading(&mut self, text: &str) {
-        self.svg += &format!(
-            "<text class=\"small\" x=\"{LEFT}\" y=\"{:.1}\">{text}</text>\n",
-            self.y + 4.0
-        );
+        self.svg += &format!("<text class=\"small\" x=\"{}\" y=\"{:.1}\">{text}</text>\n", self.x, self.y + 4.0);
         self.y += ROW;
     }
 
     /// A row: the data of a path with its attributes, and what it stands for.
     fn sign(&mut self, attributes: &str, data: &str, text: &str) {
-        let y = self.y;
-        self.svg +=
-            &format!("<path transform=\"translate({LEFT} {y:.1})\" {attributes} d=\"{data}\"/>\n");
-        self.svg += &format!("<text x=\"{WORDS}\" y=\"{:.1}\">{text}</text>\n", y + 4.0);
+        let (x, y) = (self.x, self.y);
+        self.svg += &format!("<path transform=\"translate({x} {y:.1})\" {attributes} d=\"{data}\"/>\n");
+        self.svg += &format!("<text x=\"{}\" y=\"{:.1}\">{text}</text>\n", x + INDENT, y + 4.0);
         self.y += ROW;
     }
 
@@ -108,28 +92,16 @@ impl Rows {
     fn fixes(&mut self, plan: &Plan, track: &Track, shown: usize) {
         self.heading("fixes by phase");
         for phase in phases(plan.mode()) {
-            let count = track
-                .steps
-                .iter()
-                .filter(|step| step.phase == phase.number)
-                .count();
+            let count = track.steps.iter().filter(|step| step.phase == phase.number).count();
             let attributes = format!("class=\"track\" stroke=\"{}\"", phase.colour);
-            self.sign(
-                &attributes,
-                STROKE,
-                &format!("{} {}: {count}", phase.number, phase.name),
-            );
+            self.sign(&attributes, STROKE, &format!("{} {}: {count}", phase.number, phase.name));
         }
         let refused = track.refused.len();
         if refused != 0 {
-            self.sign(
-                "class=\"cross\"",
-                &cross(15.0, 0.0),
-                &format!("refused: {refused}"),
-            );
+            self.sign("class=\"cross\"", &cross(15.0, 0.0), &format!("refused: {refused}"));
         }
         if refused != shown {
-            self.heading(&format!("{} of them outside the map", refused - shown));
+            self.heading(&format!("{} of them not on the map", refused - shown));
         }
     }
 
@@ -151,23 +123,22 @@ impl Rows {
 fn scale(frame: &Frame) -> String {
     let metres = frame.round_step(60.0);
     let length = metres * frame.scale;
-    let (y, arrow) = (BOTTOM - 6.0, LEFT + 6.0);
+    let (x, y) = (frame.right + GAP, frame.bottom - 6.0);
     format!(
-        "<path class=\"bar\" d=\"M{LEFT} {:.1}v8m0-4h{length:.1}m0-4v8\"/>\n<text x=\"{LEFT}\" y=\"{:.1}\">{metres} metres</text>\n\
-         <path class=\"bar\" d=\"M{arrow:.1} {:.1}v-36m-5 9l5-9l5 9\"/>\n<text x=\"{arrow:.1}\" y=\"{:.1}\" text-anchor=\"middle\">north</text>\n",
+        "<path class=\"bar\" d=\"M{x} {:.1}v8m0-4h{length:.1}m0-4v8\"/>\n<text x=\"{x}\" y=\"{:.1}\">{metres} metres</text>\n\
+         <path class=\"bar\" d=\"M{:.1} {:.1}v-36m-5 9l5-9l5 9\"/>\n<text x=\"{:.1}\" y=\"{:.1}\">north</text>\n",
         y - 4.0,
         y - 9.0,
-        y - 40.0,
-        y - 82.0
+        x + 6.0,
+        y - 34.0,
+        x + 18.0,
+        y - 48.0
     )
 }
 
 /// The legend of a plan and its flight, of whose refused fixes so many are shown.
 pub fn legend(frame: &Frame, plan: &Plan, track: &Track, shown: usize) -> String {
-    let mut rows = Rows {
-        svg: String::new(),
-        y: TOP + 4.0,
-    };
+    let mut rows = Rows { svg: String::new(), x: frame.right + GAP, y: TOP + 4.0 };
     rows.fixes(plan, track, shown);
     rows.plan(plan);
     rows.svg + &scale(frame)

@@ -23,10 +23,7 @@ struct Mark {
 
 fn marks_of(plan: &Plan) -> Vec<Mark> {
     let radians = |course: i32| f64::from(course) * TAU / f64::from(CIRCLE);
-    let mark = |point| Mark {
-        place: Place::of(&point),
-        course: point.course.map(radians),
-    };
+    let mark = |point| Mark { place: Place::of(&point), course: point.course.map(radians) };
     plan.points().into_iter().map(mark).collect()
 }
 
@@ -46,14 +43,9 @@ fn labels(frame: &Frame, marks: &[Mark]) -> Vec<(usize, String)> {
 /// The direction from a point to its label, in radians from north: away from the legs there and from the course's arrow.
 fn label_direction(marks: &[Mark], of: usize) -> f64 {
     let here = &marks[of];
-    let bearing =
-        |there: Place| (there.east - here.place.east).atan2(there.north - here.place.north);
+    let bearing = |there: Place| (there.east - here.place.east).atan2(there.north - here.place.north);
     let neighbours = [of.checked_sub(1), Some(of + 1)];
-    let legs = neighbours
-        .into_iter()
-        .flatten()
-        .filter_map(|i| marks.get(i))
-        .map(|mark| bearing(mark.place));
+    let legs = neighbours.into_iter().flatten().filter_map(|i| marks.get(i)).map(|mark| bearing(mark.place));
     let busy: Vec<f64> = legs.chain(here.course).collect();
     let north: f64 = busy.iter().map(|direction| direction.cos()).sum();
     let east: f64 = busy.iter().map(|direction| direction.sin()).sum();
@@ -90,8 +82,5 @@ pub fn points(frame: &Frame, plan: &Plan) -> String {
 
 pub fn legs(frame: &Frame, plan: &Plan) -> String {
     let places: Vec<Place> = plan.points().iter().map(Place::of).collect();
-    format!(
-        "<path class=\"leg\" d=\"{}\"/>\n",
-        frame.lines_through(&places)
-    )
+    format!("<path class=\"leg\" d=\"{}\"/>\n", frame.lines_through(&places))
 }

@@ -25,10 +25,7 @@ impl Place {
     }
 
     pub fn of(point: &Point) -> Place {
-        Place {
-            north: Place::metres(point.north),
-            east: Place::metres(point.east),
-        }
+        Place { north: Place::metres(point.north), east: Place::metres(point.east) }
     }
 
     pub fn distance(self, other: Place) -> f64 {

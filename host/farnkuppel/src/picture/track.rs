@@ -41,10 +41,7 @@ impl Track {
                 track.refused.push(place);
                 continue;
             }
-            track.steps.push(Step {
-                place,
-                phase: answer.phase(),
-            });
+            track.steps.push(Step { place, phase: answer.phase() });
             if let Path::Circle(numbers) = answer.path() {
                 track.note_circle(numbers);
             }
@@ -54,10 +51,7 @@ impl Track {
 
     fn note_circle(&mut self, numbers: [f32; 4]) {
         let [north, east, _, radius] = numbers.map(f64::from);
-        let circle = Circle {
-            centre: Place { north, east },
-            radius,
-        };
+        let circle = Circle { centre: Place { north, east }, radius };
         if !self.circles.contains(&circle) {
             self.circles.push(circle);
         }
