@@ -4,6 +4,7 @@ use crate::names;
 use crate::stop::{trouble, Answered, Stop};
 use archive::number::NEWEST;
 use std::ffi::{OsStr, OsString};
+use std::fmt::Display;
 use std::io::Write;
 use std::str::FromStr;
 
@@ -63,12 +64,12 @@ impl Command {
                 let value = rest.next().ok_or_else(|| self.wrong("--reader is followed by a version"))?;
                 let reader = value.to_str().and_then(whole);
                 call.reader = reader.ok_or_else(|| {
-                    self.wrong(&format!("'{}' is no version of a reader, 0 to {}", names::file(value), u32::MAX))
+                    self.wrong(&format!("{} is no version of a reader, 0 to {}", names::word(value), u32::MAX))
                 })?;
             }
             Some("--bits") => call.bits = true,
             Some("--refused") => call.refused = true,
-            _ => return Err(self.wrong(&format!("no option '{}'", names::file(word)))),
+            _ => return Err(self.wrong(&format!("no option {}", names::word(word)))),
         }
         Ok(())
     }
@@ -91,7 +92,7 @@ impl Command {
             return Err(self.wrong(&format!("{missing} is missing")));
         }
         match call.files.get(self.files.len()) {
-            Some(spare) => Err(self.wrong(&format!("'{}' is one too many", names::file(spare)))),
+            Some(spare) => Err(self.wrong(&format!("{} is one too many", names::word(spare)))),
             None => Ok(Asked::Call(call)),
         }
     }
@@ -100,6 +101,12 @@ impl Command {
 /// The whole number that a word is, in decimal digits behind at most a minus.
 pub fn whole<T: FromStr>(word: &str) -> Option<T> {
     Some(word).filter(|word| !word.starts_with('+'))?.parse().ok()
+}
+
+/// The number that a word is, or what is wrong with it, by its name.
+pub fn number_of<T: FromStr + Display>(name: &str, word: &str, least: T, most: T) -> Result<T, String> {
+    whole(word)
+        .ok_or_else(|| format!("{name} {} is no whole number from {least} to {most}", names::word(word.as_ref())))
 }
 
 #[cfg(test)]

@@ -212,8 +212,9 @@ fn simulate(call: &Call, out: &mut dyn Write) -> Answered {
 fn draw(call: &Call, out: &mut dyn Write) -> Answered {
     let inputs = [Input::open(&call.files[0])?, Input::open(&call.files[1])?];
     let target = Target::new(&call.files[2], &[&inputs[0], &inputs[1]])?;
+    let file = inputs[0].plan()?;
     let fixes = fixes::read(&inputs[1])?;
-    let Some(plan) = loaded(&inputs[0].plan()?, NEWEST, out)? else {
+    let Some(plan) = loaded(&file, NEWEST, out)? else {
         return Ok(Status::Refused);
     };
     target.write(picture::svg(&plan, &fixes).as_bytes())?;
@@ -242,7 +243,7 @@ fn same_interface() -> Result<(), Stop> {
 
 fn command(name: &OsString) -> Result<&'static Command, Stop> {
     let found = COMMANDS.iter().find(|command| name.to_str() == Some(command.name));
-    found.ok_or_else(|| trouble(&format!("no command '{}'; farnkuppel --help lists them", names::file(name))))
+    found.ok_or_else(|| trouble(&format!("no command {}; farnkuppel --help lists them", names::word(name))))
 }
 
 fn print(text: &str, out: &mut dyn Write) -> Answered {
@@ -260,7 +261,7 @@ pub fn run(words: &[OsString], out: &mut dyn Write) -> Answered {
         (Some("help"), [name]) => print(&help::one(command(name)?), out),
         (Some("--version"), []) => version(out),
         (Some("--help" | "-h" | "help" | "--version"), [.., spare]) => {
-            Err(trouble(&format!("'{}' is one too many", names::file(spare))))
+            Err(trouble(&format!("{} is one too many", names::word(spare))))
         }
         _ => {
             let command = command(first)?;

@@ -1,7 +1,8 @@
 //! Fixes: the 16 bytes of one, and lines of text.
 
-use crate::arguments::whole;
+use crate::arguments::number_of;
 use crate::input::Input;
+use crate::names;
 use crate::stop::{trouble, Stop};
 
 /// The bytes of a number and of a fix: its serial, then north, east and down.
@@ -50,7 +51,7 @@ pub fn read(input: &Input) -> Result<Vec<Fix>, Stop> {
 
 /// A number in metres, as Rust reads an f32: nan and inf are among them.
 fn metres(word: &str) -> Result<f32, String> {
-    word.parse().map_err(|_| format!("'{word}' is no number of metres"))
+    word.parse().map_err(|_| format!("{} is no number of metres", names::word(word.as_ref())))
 }
 
 /// The fix of a line `SERIAL NORTH EAST DOWN`.
@@ -59,7 +60,7 @@ fn fix_of(line: &str) -> Result<Fix, String> {
     let [serial, north, east, down] = words[..] else {
         return Err("not a fix: SERIAL NORTH EAST DOWN".to_string());
     };
-    let serial = whole(serial).ok_or_else(|| format!("serial '{serial}' is no whole number from 0 to {}", u32::MAX))?;
+    let serial = number_of("serial", serial, 0, u32::MAX)?;
     Ok(Fix { serial, position: [metres(north)?, metres(east)?, metres(down)?] })
 }
 

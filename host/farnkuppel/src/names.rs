@@ -17,10 +17,10 @@ pub fn note(bytes: &[u8]) -> String {
     bytes.iter().map(shown).collect()
 }
 
-/// The name of a file, as it is but for control characters and bytes that are no UTF-8.
-pub fn file(name: &OsStr) -> String {
+/// Any bytes as they are, but for control characters and bytes that are no UTF-8.
+fn line(bytes: &OsStr) -> String {
     let mut shown = String::new();
-    for part in name.as_encoded_bytes().utf8_chunks() {
+    for part in bytes.as_encoded_bytes().utf8_chunks() {
         for letter in part.valid().chars() {
             match letter.is_control() {
                 true => shown.extend(letter.to_string().bytes().map(escaped)),
@@ -30,6 +30,19 @@ pub fn file(name: &OsStr) -> String {
         shown.extend(part.invalid().iter().map(|byte| escaped(*byte)));
     }
     shown
+}
+
+/// A word of the command line, in quotes.
+pub fn word(word: &OsStr) -> String {
+    format!("'{}'", line(word))
+}
+
+/// The name of a file, in quotes where it is empty.
+pub fn file(name: &OsStr) -> String {
+    match name.is_empty() {
+        true => word(name),
+        false => line(name),
+    }
 }
 
 #[cfg(test)]
@@ -47,5 +60,7 @@ mod tests {
     fn a_name_is_one_line_of_utf8() {
         assert_eq!(file(OsStr::from_bytes(b"a\nb\xFF")), "a\\x0Ab\\xFF");
         assert_eq!(file(OsStr::new("hügel.wpl")), "hügel.wpl");
+        assert_eq!(file(OsStr::new("")), "''");
+        assert_eq!(word(OsStr::new("")), "''");
     }
 }

@@ -70,7 +70,7 @@ impl Target {
             None => new_objection(Path::new(name)),
         };
         if let Some(what) = objection {
-            return Err(trouble(&format!("{}: {what}", if shown.is_empty() { "''" } else { &shown })));
+            return Err(trouble(&format!("{shown}: {what}")));
         }
         let path = match &standing {
             Some(_) => fs::canonicalize(name).map_err(|error| of_file(&shown, &error))?,

@@ -1,13 +1,12 @@
 //! Plans as text (docs/TEXT.md): what `list` and `text` print, and what `new` reads.
 
-use crate::arguments::whole;
+use crate::arguments::{number_of, whole};
 use crate::input::Input;
 use crate::layout::{self, Draft, COURSE, NOTE, POINT, RADIUS, SPEED};
 use crate::names;
 use crate::plan::{self, Plan, Refusal};
 use crate::stop::Stop;
 use archive::number;
-use std::fmt::Display;
 
 /// The first line of a plan's listing.
 fn title(plan: &Plan) -> String {
@@ -23,7 +22,7 @@ fn point_lines(plan: &Plan) -> impl Iterator<Item = String> {
     })
 }
 
-/// The listing of a plan, as document 01 has it.
+/// The listing of a plan: the lines that the program `listing` prints.
 pub fn listing(plan: &Plan) -> Vec<String> {
     [title(plan)].into_iter().chain(point_lines(plan)).collect()
 }
@@ -63,11 +62,6 @@ struct Reading {
     written: Written,
 }
 
-/// A number of a line, with its name.
-fn number_of<T: std::str::FromStr + Display>(name: &str, word: &str, least: T, most: T) -> Result<T, String> {
-    whole(word).ok_or_else(|| format!("{name} '{word}' is no whole number from {least} to {most}"))
-}
-
 /// The first line.
 fn read_title(line: usize, words: &[&str]) -> Result<Reading, String> {
     let ["plan", serial, "version", version, "mode", mode, "points", count] = words else {
@@ -76,7 +70,7 @@ fn read_title(line: usize, words: &[&str]) -> Result<Reading, String> {
     let serial = number_of("serial", serial, 0, u32::MAX)?;
     let version = number_of("version", version, 0, u16::MAX)?;
     if !["lines", "fillets", "dubins"].contains(mode) {
-        return Err(format!("mode '{mode}' is none of lines, fillets, dubins"));
+        return Err(format!("mode {} is none of lines, fillets, dubins", names::word(mode.as_ref())));
     }
     let count = number_of("count", count, 0, u32::MAX)? as usize;
     let mode = mode.to_string();
@@ -97,7 +91,7 @@ impl Reading {
         };
         let next = self.written.point_lines.len() + 1;
         if whole(number) != Some(next) {
-            return Err(format!("point '{number}' stands where point {next} should"));
+            return Err(format!("point {} stands where point {next} should", names::word(number.as_ref())));
         }
         let mut body = Vec::new();
         for (name, word) in [("north", north), ("east", east), ("down", down)] {
