@@ -89,7 +89,7 @@ extern "C" {
     ROW(6, WRONG_RECORD, "record wrong or cut short") \
     /* A load: a record that the reader does not know and may not leave out, in a newer file. Place: the record's offset in the file. \
      * A write: the plan needs a higher version. Place: 0. */ \
-    ROW(7, TOO_NEW, "needs a higher version") \
+    ROW(7, TOO_NEW, "plan needs a higher version") \
     /* A load: under 3 points, or over 64. */ \
     ROW(8, POINT_COUNT, "too few or too many points") \
     /* A load: a course without a radius, or courses at some points only. */ \
