@@ -5,9 +5,9 @@
  *
  * Both are for x86-64 under Linux, by the System V calling convention. They need memset, as the C library has it, and no other symbol.
  *
- * Every function answers a refusal number, 0 for none, whatever it is given; farnkuppel_interface alone answers something else. It reads and
- * writes the memory that it is lent, up to the lengths that it is told, and no other; it keeps nothing between calls and uses no heap. What each
- * one writes is said below and is proved.
+ * Every function of theirs answers a refusal number, 0 for none, whatever it is given; farnkuppel_interface alone answers something else. It
+ * reads and writes the memory that it is lent, up to the lengths that it is told, and no other; it keeps nothing between calls and uses no heap.
+ * What each one writes is said below and is proved. What is `static inline` here is plain C that reads words: it is tested, not proved.
  *
  * Memory is lent as a slice, by two arguments: a pointer, and the number of its elements (not of bytes) as a size_t. A state, an answer, a
  * command or a note's buffer that is shorter than it has to be is refused FARNKUPPEL_REFUSED_MISFIT before anything else is looked at, and then
@@ -89,7 +89,7 @@ extern "C" {
     ROW(6, WRONG_RECORD, "record wrong or cut short") \
     /* A load: a record that the reader does not know and may not leave out, in a newer file. Place: the record's offset in the file. \
      * A write: the plan needs a higher version. Place: 0. */ \
-    ROW(7, TOO_NEW, "needs a higher version") \
+    ROW(7, TOO_NEW, "plan needs a higher version") \
     /* A load: under 3 points, or over 64. */ \
     ROW(8, POINT_COUNT, "too few or too many points") \
     /* A load: a course without a radius, or courses at some points only. */ \
@@ -230,6 +230,138 @@ static inline const char *farnkuppel_refusal_name(uint32_t number)
 #define FARNKUPPEL_CIRCLE_CENTRE_EAST 1
 #define FARNKUPPEL_CIRCLE_CENTRE_DOWN 2
 #define FARNKUPPEL_CIRCLE_RADIUS 3
+
+/* ---- words as structs
+ *
+ * Nothing here calls an archive. Each function takes words as the calls below leave them, with the number of elements that there are, and reads none
+ * beyond. Where there are too few, what it answers is 0, but for the refusal of an answer. */
+
+/* A place or a direction in metres. */
+struct farnkuppel_metres {
+    float north, east, down;
+};
+
+/* A place in decimetres. */
+struct farnkuppel_decimetres {
+    int32_t north, east, down;
+};
+
+/* The answer to a fix. */
+struct farnkuppel_answer {
+    uint32_t refusal; /* FARNKUPPEL_REFUSED_MISFIT where there are too few words, so that these never look accepted */
+    uint32_t heading;
+    uint32_t index, phase, finished;
+};
+
+static inline struct farnkuppel_answer farnkuppel_answer_of(const uint32_t *answer, size_t answer_length)
+{
+    struct farnkuppel_answer found = {FARNKUPPEL_REFUSED_MISFIT, 0, 0, 0, 0};
+    if (answer_length >= FARNKUPPEL_ANSWER_WORDS) {
+        found.refusal = answer[FARNKUPPEL_ANSWER_REFUSAL];
+        found.heading = answer[FARNKUPPEL_ANSWER_HEADING];
+        found.index = answer[FARNKUPPEL_ANSWER_INDEX];
+        found.phase = answer[FARNKUPPEL_ANSWER_PHASE];
+        found.finished = answer[FARNKUPPEL_ANSWER_FINISHED];
+    }
+    return found;
+}
+
+/* The command of a fix. What its kind does not have is 0. */
+struct farnkuppel_command {
+    uint32_t kind;                             /* FARNKUPPEL_COMMAND_NONE, _LINE or _CIRCLE */
+    struct farnkuppel_metres start, direction; /* of a line */
+    struct farnkuppel_metres centre;           /* of a circle */
+    float radius;                              /* of a circle, in metres */
+    int sense;                                 /* of a circle, as seen from above: 1 clockwise, -1 anticlockwise */
+};
+
+/* From the answer, which has the kind and the sense, and the numbers of the command. A kind that is none of the three is FARNKUPPEL_COMMAND_NONE. */
+static inline struct farnkuppel_command farnkuppel_command_of(const uint32_t *answer, size_t answer_length, const float *command,
+                                                              size_t command_length)
+{
+    struct farnkuppel_command found = {FARNKUPPEL_COMMAND_NONE, {0, 0, 0}, {0, 0, 0}, {0, 0, 0}, 0, 0};
+    if (answer_length < FARNKUPPEL_ANSWER_WORDS || command_length < FARNKUPPEL_COMMAND_NUMBERS)
+        return found;
+    if (answer[FARNKUPPEL_ANSWER_KIND] == FARNKUPPEL_COMMAND_LINE) {
+        found.kind = FARNKUPPEL_COMMAND_LINE;
+        found.start.north = command[FARNKUPPEL_LINE_START_NORTH];
+        found.start.east = command[FARNKUPPEL_LINE_START_EAST];
+        found.start.down = command[FARNKUPPEL_LINE_START_DOWN];
+        found.direction.north = command[FARNKUPPEL_LINE_DIRECTION_NORTH];
+        found.direction.east = command[FARNKUPPEL_LINE_DIRECTION_EAST];
+        found.direction.down = command[FARNKUPPEL_LINE_DIRECTION_DOWN];
+    }
+    if (answer[FARNKUPPEL_ANSWER_KIND] == FARNKUPPEL_COMMAND_CIRCLE) {
+        found.kind = FARNKUPPEL_COMMAND_CIRCLE;
+        found.centre.north = command[FARNKUPPEL_CIRCLE_CENTRE_NORTH];
+        found.centre.east = command[FARNKUPPEL_CIRCLE_CENTRE_EAST];
+        found.centre.down = command[FARNKUPPEL_CIRCLE_CENTRE_DOWN];
+        found.radius = command[FARNKUPPEL_CIRCLE_RADIUS];
+        found.sense = (answer[FARNKUPPEL_ANSWER_SENSE] == FARNKUPPEL_SENSE_CLOCKWISE) -
+                      (answer[FARNKUPPEL_ANSWER_SENSE] == FARNKUPPEL_SENSE_ANTICLOCKWISE);
+    }
+    return found;
+}
+
+/* What a state says of the whole plan. */
+struct farnkuppel_head {
+    uint32_t serial;
+    uint32_t mode;
+    uint32_t radius; /* decimetres, 0 for none */
+    uint32_t count;  /* of points */
+};
+
+static inline struct farnkuppel_head farnkuppel_head_of(const int32_t *state, size_t state_length)
+{
+    struct farnkuppel_head found = {0, 0, 0, 0};
+    if (state_length >= FARNKUPPEL_STATE_WORDS) {
+        found.serial = (uint32_t)state[FARNKUPPEL_STATE_SERIAL];
+        found.mode = (uint32_t)state[FARNKUPPEL_STATE_MODE];
+        found.radius = (uint32_t)state[FARNKUPPEL_STATE_RADIUS];
+        found.count = (uint32_t)state[FARNKUPPEL_STATE_COUNT];
+    }
+    return found;
+}
+
+/* Where on the plan the aircraft is. */
+struct farnkuppel_progress {
+    uint32_t index, phase, finished;
+};
+
+static inline struct farnkuppel_progress farnkuppel_progress_of(const int32_t *state, size_t state_length)
+{
+    struct farnkuppel_progress found = {0, 0, 0};
+    if (state_length >= FARNKUPPEL_STATE_WORDS) {
+        found.index = (uint32_t)state[FARNKUPPEL_STATE_INDEX];
+        found.phase = (uint32_t)state[FARNKUPPEL_STATE_PHASE];
+        found.finished = (uint32_t)state[FARNKUPPEL_STATE_FINISHED];
+    }
+    return found;
+}
+
+/* 1 where a state has a point of a number, which goes from 1 to the count, and FARNKUPPEL_MOST_POINTS at the most; else 0. */
+static inline int farnkuppel_has_point(const int32_t *state, size_t state_length, uint32_t number)
+{
+    return number >= 1 && number <= FARNKUPPEL_MOST_POINTS && number <= farnkuppel_head_of(state, state_length).count;
+}
+
+/* A state's point by its number; zeros where it has no such point. */
+static inline struct farnkuppel_decimetres farnkuppel_point_of(const int32_t *state, size_t state_length, uint32_t number)
+{
+    struct farnkuppel_decimetres found = {0, 0, 0};
+    if (farnkuppel_has_point(state, state_length, number)) {
+        found.north = state[FARNKUPPEL_STATE_NORTHS + number - 1];
+        found.east = state[FARNKUPPEL_STATE_EASTS + number - 1];
+        found.down = state[FARNKUPPEL_STATE_DOWNS + number - 1];
+    }
+    return found;
+}
+
+/* The course at a state's point by its number; 0 where it has no such point, and at every point of lines and fillets. */
+static inline uint32_t farnkuppel_course_of(const int32_t *state, size_t state_length, uint32_t number)
+{
+    return farnkuppel_has_point(state, state_length, number) ? (uint32_t)state[FARNKUPPEL_STATE_COURSES + number - 1] : 0;
+}
 
 /* ---- in both archives */
 
