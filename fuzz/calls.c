@@ -48,6 +48,17 @@ static void load_once(struct file file, uint32_t reader, size_t spare, uint8_t f
     memcpy(got->answer, answer, sizeof got->answer);
 }
 
+static void check_once(struct file file, uint32_t reader, size_t spare, uint8_t fill, const struct load *load)
+{
+    size_t answers = FARNKUPPEL_CHECK_WORDS + spare;
+    uint8_t *bytes = lend_copy(&file_memory, file.bytes, file.length);
+    uint32_t *answer = lend(&answer_memory, answers * WORD, fill);
+    HOLD(farnkuppel_check(bytes, file.length, reader, answer, answers) == FARNKUPPEL_ACCEPTED);
+    take_copy(&file_memory, file.bytes, file.length);
+    take_back(&answer_memory, answers * WORD, FARNKUPPEL_CHECK_WORDS * WORD, fill);
+    HOLD(answer[FARNKUPPEL_CHECK_REFUSAL] == load->result && answer[FARNKUPPEL_CHECK_PLACE] == load->answer[FARNKUPPEL_LOAD_PLACE]);
+}
+
 struct load load_of(struct file file, uint32_t reader)
 {
     struct load got, again;
@@ -58,7 +69,27 @@ struct load load_of(struct file file, uint32_t reader)
     uint8_t *bytes = lend_copy(&file_memory, file.bytes, file.length);
     HOLD(farnkuppel_refusal(bytes, file.length, reader) == got.result);
     take_copy(&file_memory, file.bytes, file.length);
+    check_once(file, reader, 0, first, &got);
+    check_once(file, reader, SPARE, second, &got);
     return got;
+}
+
+static uint32_t count_once(struct file file, size_t spare, uint8_t fill)
+{
+    size_t answers = FARNKUPPEL_NOTES_WORDS + spare;
+    uint8_t *bytes = lend_copy(&file_memory, file.bytes, file.length);
+    uint32_t *answer = lend(&answer_memory, answers * WORD, fill);
+    HOLD(farnkuppel_notes(bytes, file.length, answer, answers) == FARNKUPPEL_ACCEPTED);
+    take_copy(&file_memory, file.bytes, file.length);
+    take_back(&answer_memory, answers * WORD, FARNKUPPEL_NOTES_WORDS * WORD, fill);
+    return answer[FARNKUPPEL_NOTES_COUNT];
+}
+
+uint32_t count_of(struct file file)
+{
+    uint32_t count = count_once(file, 0, first);
+    HOLD(count_once(file, SPARE, second) == count);
+    return count;
 }
 
 static void note_once(struct file file, uint32_t number, size_t spare, uint8_t fill, struct note *got)
@@ -167,6 +198,10 @@ static uint32_t call_short(int call, const uint8_t *file, size_t length, struct 
         result = farnkuppel_write(state, n.state, FARNKUPPEL_NEWEST, bytes, n.bytes, answer, n.answer);
     if (call == 3)
         result = farnkuppel_note(file, length, 1, bytes, n.bytes, answer, n.answer);
+    if (call == 4)
+        result = farnkuppel_check(file, length, FARNKUPPEL_NEWEST, answer, n.answer);
+    if (call == 5)
+        result = farnkuppel_notes(file, length, answer, n.answer);
     take_back(&state_memory, n.state * WORD, 0, first);
     take_back(&answer_memory, n.answer * WORD, 0, first);
     take_back(&bytes_memory, n.bytes * element, 0, first);
@@ -176,15 +211,16 @@ static uint32_t call_short(int call, const uint8_t *file, size_t length, struct 
 void short_slices(struct file file, size_t cut)
 {
     const size_t states = FARNKUPPEL_STATE_WORDS, numbers = FARNKUPPEL_COMMAND_NUMBERS, room = FARNKUPPEL_NOTE_BYTES;
-    const size_t answers[] = {FARNKUPPEL_LOAD_WORDS, FARNKUPPEL_ANSWER_WORDS, FARNKUPPEL_WRITE_WORDS, FARNKUPPEL_NOTE_WORDS};
-    const size_t elements[] = {1, sizeof(float), 1, 1}, lengths[] = {0, numbers, MOST_ROOM, room};
+    const size_t answers[] = {FARNKUPPEL_LOAD_WORDS, FARNKUPPEL_ANSWER_WORDS, FARNKUPPEL_WRITE_WORDS,
+                              FARNKUPPEL_NOTE_WORDS, FARNKUPPEL_CHECK_WORDS,  FARNKUPPEL_NOTES_WORDS};
+    const size_t elements[] = {1, sizeof(float), 1, 1, 1, 1}, lengths[] = {0, numbers, MOST_ROOM, room, 0, 0};
     uint8_t *bytes = lend_copy(&file_memory, file.bytes, file.length);
-    for (int call = 0; call < 4; call++) {
+    for (int call = 0; call < 6; call++) {
         struct lengths short_answer = {states, less(answers[call], cut), lengths[call]};
         struct lengths short_state = {less(states, cut), answers[call], lengths[call]};
         struct lengths short_bytes = {states, answers[call], less(lengths[call], cut)};
         HOLD(call_short(call, bytes, file.length, short_answer, elements[call]) == FARNKUPPEL_REFUSED_MISFIT);
-        if (call != 3)
+        if (call < 3)
             HOLD(call_short(call, bytes, file.length, short_state, elements[call]) == FARNKUPPEL_REFUSED_MISFIT);
         if (call == 1 || call == 3)
             HOLD(call_short(call, bytes, file.length, short_bytes, elements[call]) == FARNKUPPEL_REFUSED_MISFIT);

@@ -42,7 +42,11 @@ struct written {
 /* Gets the memory that is lent, and looks that the archive is the header's. Once, before any call. */
 void prepare(void);
 
+/* With a check by the same reader, which answers the same. */
 struct load load_of(struct file file, uint32_t reader);
+
+/* How many notes there are. */
+uint32_t count_of(struct file file);
 struct note note_of(struct file file, uint32_t number);
 struct fix fix_of(const int32_t *state, uint32_t serial, const float *position);
 

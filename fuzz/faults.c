@@ -9,11 +9,15 @@ uint32_t __real_farnkuppel_fix(int32_t *, size_t, uint32_t, float, float, float,
 uint32_t __real_farnkuppel_write(const int32_t *, size_t, uint32_t, uint8_t *, size_t, uint32_t *, size_t);
 uint32_t __real_farnkuppel_refusal(const uint8_t *, size_t, uint32_t);
 uint32_t __real_farnkuppel_note(const uint8_t *, size_t, uint32_t, uint8_t *, size_t, uint32_t *, size_t);
+uint32_t __real_farnkuppel_check(const uint8_t *, size_t, uint32_t, uint32_t *, size_t);
+uint32_t __real_farnkuppel_notes(const uint8_t *, size_t, uint32_t *, size_t);
 uint32_t __wrap_farnkuppel_load(const uint8_t *, size_t, uint32_t, int32_t *, size_t, uint32_t *, size_t);
 uint32_t __wrap_farnkuppel_fix(int32_t *, size_t, uint32_t, float, float, float, uint32_t *, size_t, float *, size_t);
 uint32_t __wrap_farnkuppel_write(const int32_t *, size_t, uint32_t, uint8_t *, size_t, uint32_t *, size_t);
 uint32_t __wrap_farnkuppel_refusal(const uint8_t *, size_t, uint32_t);
 uint32_t __wrap_farnkuppel_note(const uint8_t *, size_t, uint32_t, uint8_t *, size_t, uint32_t *, size_t);
+uint32_t __wrap_farnkuppel_check(const uint8_t *, size_t, uint32_t, uint32_t *, size_t);
+uint32_t __wrap_farnkuppel_notes(const uint8_t *, size_t, uint32_t *, size_t);
 
 /* The speed of a record that ends at `to`. */
 static unsigned speed_before(const uint8_t *file, size_t to)
@@ -67,7 +71,7 @@ uint32_t __wrap_farnkuppel_fix(int32_t *state, size_t states, uint32_t serial, f
     const float p[3] = {north, east, down};
     int whole = states >= FARNKUPPEL_STATE_WORDS && answers >= FARNKUPPEL_ANSWER_WORDS && commands >= FARNKUPPEL_COMMAND_NUMBERS;
     int last = whole && state[FARNKUPPEL_STATE_INDEX] == state[FARNKUPPEL_STATE_COUNT];
-    if (FAULT >= 19 && whole)
+    if ((FAULT == 19 || FAULT == 20) && whole)
         return narrow_fix(state, states, serial, p, answer, answers, command, commands);
     uint32_t result = __real_farnkuppel_fix(state, states, serial, north, east, down, answer, answers, command, commands);
     if (result == FARNKUPPEL_REFUSED_MISFIT)
@@ -114,5 +118,23 @@ uint32_t __wrap_farnkuppel_note(const uint8_t *file, size_t length, uint32_t num
     uint32_t result = __real_farnkuppel_note(file, length, asked, note, room, answer, answers);
     if (FAULT == 16 && result == 0 && answer[FARNKUPPEL_NOTE_LENGTH] == 17)
         memset(note, 0, room);
+    return result;
+}
+
+uint32_t __wrap_farnkuppel_check(const uint8_t *file, size_t length, uint32_t reader, uint32_t *answer, size_t answers)
+{
+    uint32_t result = __real_farnkuppel_check(file, length, reader, answer, answers);
+    if (FAULT == 21 && result == 0 && answer[FARNKUPPEL_CHECK_REFUSAL] == FARNKUPPEL_REFUSED_SHORT_LEG)
+        answer[FARNKUPPEL_CHECK_PLACE] = 0;
+    return result;
+}
+
+uint32_t __wrap_farnkuppel_notes(const uint8_t *file, size_t length, uint32_t *answer, size_t answers)
+{
+    uint32_t result = __real_farnkuppel_notes(file, length, answer, answers);
+    if (FAULT == 22 && result == 0 && answer[FARNKUPPEL_NOTES_COUNT] && speed_before(file, length))
+        answer[FARNKUPPEL_NOTES_COUNT]++;
+    if (FAULT == 23 && answers > FARNKUPPEL_NOTES_WORDS)
+        answer[FARNKUPPEL_NOTES_WORDS] = 0;
     return result;
 }

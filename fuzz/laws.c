@@ -87,6 +87,7 @@ void note_laws(struct file file, int loads, uint32_t asked)
         if (file.bytes[at] == NOTE && ++seen <= 8)
             one_note(file, seen, file.bytes + at + 2, file.bytes[at + 1]);
     }
+    HOLD(count_of(file) == seen);
     one_note(file, 0, NULL, 0);
     one_note(file, seen + 1, NULL, 0);
     if (asked > seen)

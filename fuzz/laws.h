@@ -10,7 +10,7 @@ int32_t part_of(const int32_t *state, int32_t point, int part);
 /* A file by the reader that is asked for and by every reader; the newest one's load comes back. */
 struct load load_laws(struct file file, uint32_t reader);
 
-/* The notes of a file, those around them, and the one that is asked for. */
+/* The notes of a file, how many they are, those around them, and the one that is asked for. */
 void note_laws(struct file file, int loads, uint32_t asked);
 
 /* What a state writes at a version, into a buffer that is so much shorter than it could be. */

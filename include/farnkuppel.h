@@ -1,7 +1,7 @@
 /* The path manager, for C99 and C++.
  *
  * rt staticlib autopilot    writes target/staticlib/libautopilot.a: load, fix and write
- * rt staticlib desk         writes target/staticlib/libdesk.a: the refusal number of a file, and its notes
+ * rt staticlib desk         writes target/staticlib/libdesk.a: the refusal of a file, and its notes
  *
  * Both are for x86-64 under Linux, by the System V calling convention. They need memset, as the C library has it, and no other symbol.
  *
@@ -64,15 +64,17 @@ extern "C" {
 #define FARNKUPPEL_STACK_LOAD 560
 #define FARNKUPPEL_STACK_FIX 1328
 #define FARNKUPPEL_STACK_WRITE 624
-#define FARNKUPPEL_STACK_REFUSAL 1440
-#define FARNKUPPEL_STACK_NOTE 1472
+#define FARNKUPPEL_STACK_REFUSAL 1472
+#define FARNKUPPEL_STACK_CHECK 1472
+#define FARNKUPPEL_STACK_NOTE 1504
+#define FARNKUPPEL_STACK_NOTES 1488
 
 /* ---- refusals */
 
 /* A row for each refusal: its number, its name and the same in words; above the row when it is given, and the place that the answer has with it,
  * 0 where none is named. The first that applies is given. A load looks at the reader's version, then in the order of the numbers, at the records
- * one after the other for 6 and 7 and at the legs for 12 and 17; what is said of a load holds of farnkuppel_refusal too, which has no place. A fix
- * looks for 14, 15, 13, a write for 14, 3, 7, 16. */
+ * one after the other for 6 and 7 and at the legs for 12 and 17; what is said of a load holds of farnkuppel_check too, and of farnkuppel_refusal,
+ * which has no place. A fix looks for 14, 15, 13, a write for 14, 3, 7, 16. */
 #define FARNKUPPEL_REFUSALS(ROW) \
     /* A load: the file has under 11 bytes. */ \
     ROW(1, FILE_TOO_SHORT, "file shorter than its header") \
@@ -189,6 +191,15 @@ static inline const char *farnkuppel_refusal_name(uint32_t number)
 #define FARNKUPPEL_WRITE_REFUSAL 0
 #define FARNKUPPEL_WRITE_PLACE 1
 #define FARNKUPPEL_WRITE_LENGTH 2      /* of the file; 0 where the write is refused */
+
+/* To a check: what a load by that reader has there. */
+#define FARNKUPPEL_CHECK_WORDS 2
+#define FARNKUPPEL_CHECK_REFUSAL 0
+#define FARNKUPPEL_CHECK_PLACE 1
+
+/* To a count of notes. */
+#define FARNKUPPEL_NOTES_WORDS 1
+#define FARNKUPPEL_NOTES_COUNT 0       /* 0 where the newest reader refuses the file */
 
 /* To a note. */
 #define FARNKUPPEL_NOTE_WORDS 1
@@ -392,6 +403,14 @@ uint32_t farnkuppel_write(const int32_t *state, size_t state_length, uint32_t ve
 
 /* The number of the first refusal of a plan file for a reader of a version, 0 if it loads. Reads `file`, and writes nothing. */
 uint32_t farnkuppel_refusal(const uint8_t *file, size_t length, uint32_t reader);
+
+/* The same with its place. Reads `file`; writes the first FARNKUPPEL_CHECK_WORDS of `answer`. A file that is refused is an answer, not a refusal of
+ * the call, which gives FARNKUPPEL_ACCEPTED. */
+uint32_t farnkuppel_check(const uint8_t *file, size_t file_length, uint32_t reader, uint32_t *answer, size_t answer_length);
+
+/* How many notes a plan file has. They are numbered from 1 to so many, and each has bytes. Reads `file`; writes the first FARNKUPPEL_NOTES_WORDS of
+ * `answer`. A file that the newest reader refuses has none, and that is no refusal of the call. */
+uint32_t farnkuppel_notes(const uint8_t *file, size_t file_length, uint32_t *answer, size_t answer_length);
 
 /* A note of a plan file, by its number from 1. Reads `file`; writes the note's bytes at the front of `note`, which has room for
  * FARNKUPPEL_NOTE_BYTES, and the first FARNKUPPEL_NOTE_WORDS of `answer`. There are no bytes where the newest reader refuses the file or it has

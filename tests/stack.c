@@ -36,7 +36,9 @@ __asm__(".text\n"
         PAINTED("interface")
 #ifdef DESK
         PAINTED("refusal")
+        PAINTED("check")
         PAINTED("note")
+        PAINTED("notes")
 #else
         PAINTED("load")
         PAINTED("fix")
@@ -49,6 +51,8 @@ uint32_t painted_load(const uint8_t *, size_t, uint32_t, int32_t *, size_t, uint
 uint32_t painted_fix(int32_t *, size_t, uint32_t, float, float, float, uint32_t *, size_t, float *, size_t);
 uint32_t painted_write(const int32_t *, size_t, uint32_t, uint8_t *, size_t, uint32_t *, size_t);
 uint32_t painted_refusal(const uint8_t *, size_t, uint32_t);
+uint32_t painted_check(const uint8_t *, size_t, uint32_t, uint32_t *, size_t);
+uint32_t painted_notes(const uint8_t *, size_t, uint32_t *, size_t);
 uint32_t painted_note(const uint8_t *, size_t, uint32_t, uint8_t *, size_t, uint32_t *, size_t);
 
 struct plan {
@@ -134,13 +138,17 @@ static size_t interface_depth;
 
 #ifdef DESK
 
-static size_t refusal_depth, note_depth;
+static size_t refusal_depth, check_depth, note_depth, notes_depth;
 
 static void ask(const uint8_t *file, size_t length, uint32_t number)
 {
     uint8_t note[FARNKUPPEL_NOTE_BYTES];
-    uint32_t answer[FARNKUPPEL_NOTE_WORDS];
+    uint32_t answer[FARNKUPPEL_CHECK_WORDS];
     SEE(refusal_depth, painted_refusal(file, length, number))
+    SEE(check_depth, painted_check(file, length, number, answer, FARNKUPPEL_CHECK_WORDS))
+    SEE(check_depth, painted_check(file, length, number, answer, 0))
+    SEE(notes_depth, painted_notes(file, length, answer, FARNKUPPEL_NOTES_WORDS))
+    SEE(notes_depth, painted_notes(file, length, answer, 0))
     SEE(note_depth, painted_note(file, length, number, note, sizeof note, answer, FARNKUPPEL_NOTE_WORDS))
     SEE(note_depth, painted_note(file, length, number, note, 0, answer, FARNKUPPEL_NOTE_WORDS))
 }
@@ -159,7 +167,8 @@ static void use_whole(const struct plan *plan)
 
 static void print_depths(void)
 {
-    printf("farnkuppel_refusal %zu\nfarnkuppel_note %zu\n", refusal_depth, note_depth);
+    printf("farnkuppel_refusal %zu\nfarnkuppel_check %zu\n", refusal_depth, check_depth);
+    printf("farnkuppel_note %zu\nfarnkuppel_notes %zu\n", note_depth, notes_depth);
 }
 
 #else

@@ -1,5 +1,5 @@
 /* Every constant of the header against a number that is written out here, at compile time; and the same numbers against what the archive answers.
- * No number below comes from the header. A note's numbers are held against the other archive, in tests/desk; no plan is refused 17. A line for each
+ * No number below comes from the header. The desk's numbers are held against the other archive, in tests/desk; no plan is refused 17. A line for each
  * fact that does not hold; leaves with 1 where there is one. */
 #include "../plan.h"
 #include "farnkuppel.h"
@@ -30,8 +30,10 @@ SAME(FARNKUPPEL_STACK_INTERFACE, 8);
 SAME(FARNKUPPEL_STACK_LOAD, 560);
 SAME(FARNKUPPEL_STACK_FIX, 1328);
 SAME(FARNKUPPEL_STACK_WRITE, 624);
-SAME(FARNKUPPEL_STACK_REFUSAL, 1440);
-SAME(FARNKUPPEL_STACK_NOTE, 1472);
+SAME(FARNKUPPEL_STACK_REFUSAL, 1472);
+SAME(FARNKUPPEL_STACK_CHECK, 1472);
+SAME(FARNKUPPEL_STACK_NOTE, 1504);
+SAME(FARNKUPPEL_STACK_NOTES, 1488);
 
 /* refusals */
 SAME(FARNKUPPEL_ACCEPTED, 0);
@@ -89,6 +91,11 @@ SAME(FARNKUPPEL_WRITE_WORDS, 3);
 SAME(FARNKUPPEL_WRITE_REFUSAL, 0);
 SAME(FARNKUPPEL_WRITE_PLACE, 1);
 SAME(FARNKUPPEL_WRITE_LENGTH, 2);
+SAME(FARNKUPPEL_CHECK_WORDS, 2);
+SAME(FARNKUPPEL_CHECK_REFUSAL, 0);
+SAME(FARNKUPPEL_CHECK_PLACE, 1);
+SAME(FARNKUPPEL_NOTES_WORDS, 1);
+SAME(FARNKUPPEL_NOTES_COUNT, 0);
 SAME(FARNKUPPEL_NOTE_WORDS, 1);
 SAME(FARNKUPPEL_NOTE_LENGTH, 0);
 SAME(FARNKUPPEL_ANSWER_WORDS, 8);

@@ -1,6 +1,7 @@
-/* The desk's functions from C. A line for the interface. A line for each file and reader: the name, the reader and the refusal number. A line for
- * each file and note: the name, the note's number, the result, the answer (- where it was not written) and the lent buffer, which held a dot at
- * every byte.
+/* The desk's functions from C. A line for the interface. A line for each file and reader: the name, the reader, the refusal number, and the refusal
+ * and place of a check. A line for a check or a count that lends another number of words than it needs: what was lent, the result, and every word
+ * (- where it was not written). A line for each file whose notes are counted: the name, "has", and how many. A line for each file and note: the
+ * name, the note's number, the result, the answer and the lent buffer, which held a dot at every byte.
  * Every file is written out below; what is expected is read off document 01's tables and its sentence on notes. */
 #include "../plan.h"
 #include "farnkuppel.h"
@@ -36,10 +37,64 @@ static uint8_t *copy_of_file(void)
     return copy;
 }
 
+static uint32_t *lent_words(size_t words)
+{
+    uint32_t *answer = exactly(words * sizeof *answer);
+    for (size_t i = 0; i < words; i++)
+        answer[i] = UINT32_MAX;
+    return answer;
+}
+
+/* The words of an answer, and a line's end; what was lent is given back. */
+static void print_words(uint32_t *answer, size_t words)
+{
+    for (size_t i = 0; i < words; i++) {
+        if (answer[i] == UINT32_MAX)
+            printf(" -");
+        else
+            printf(" %" PRIu32, answer[i]);
+    }
+    printf("\n");
+    free(answer);
+}
+
 static void ask(const char *name, uint32_t reader)
 {
     uint8_t *copy = copy_of_file();
-    printf("%s %" PRIu32 " %" PRIu32 "\n", name, reader, farnkuppel_refusal(copy, length, reader));
+    uint32_t *answer = lent_words(2);
+    printf("%s %" PRIu32 " %" PRIu32, name, reader, farnkuppel_refusal(copy, length, reader));
+    if (farnkuppel_check(copy, length, reader, answer, 2) != 0)
+        printf(" not checked");
+    print_words(answer, 2);
+    free(copy);
+}
+
+static void check_into(size_t words)
+{
+    uint8_t *copy = copy_of_file();
+    uint32_t *answer = lent_words(words);
+    printf("check into %zu words %" PRIu32, words, farnkuppel_check(copy, length, 3, answer, words));
+    print_words(answer, words);
+    free(copy);
+}
+
+static void count_into(size_t words)
+{
+    uint8_t *copy = copy_of_file();
+    uint32_t *answer = lent_words(words);
+    printf("count into %zu words %" PRIu32, words, farnkuppel_notes(copy, length, answer, words));
+    print_words(answer, words);
+    free(copy);
+}
+
+static void count(const char *name)
+{
+    uint8_t *copy = copy_of_file();
+    uint32_t *answer = lent_words(1);
+    printf("%s has", name);
+    if (farnkuppel_notes(copy, length, answer, 1) != 0)
+        printf(" not counted");
+    print_words(answer, 1);
     free(copy);
 }
 
@@ -233,6 +288,33 @@ static void notes(void)
     ask_note_of("no-room", 1, 0, 1);
     ask_note_of("no-answer", 1, 32, 0);
     ask_note_of("room-31-and-no-such-note", 9, 31, 1);
+    count("noted");
+}
+
+/* Answers that are too short or longer than they have to be, on a file with four notes, and on one that is refused for its last record. */
+static void lengths(void)
+{
+    noted(3);
+    for (size_t words = 0; words <= 2; words++)
+        count_into(words);
+    put(200, 1);
+    put(0, 1);
+    close_area();
+    for (size_t words = 0; words <= 3; words++)
+        check_into(words);
+    count_into(2);
+}
+
+/* As many notes as an area holds: 3 points of 14 bytes, then 2,716 notes of one byte. */
+static void many_notes(void)
+{
+    lines(2);
+    while (length + 3 <= 11 + 8192)
+        note("n");
+    close_area();
+    count("many");
+    ask_note("many", 2716);
+    ask_note("many", 2717);
 }
 
 /* Files without a note, and files that the newest reader refuses. */
@@ -240,22 +322,28 @@ static void no_notes(void)
 {
     lines(1);
     ask_note("lines", 1);
+    count("lines");
     length = 0;
     ask_note("empty", 1);
+    count("empty");
     noted(2);
     ask_note("speed-in-version-2", 1);
+    count("speed-in-version-2");
     noted(3);
     memset(file + 5, 0, 4);
     ask_note("serial-0", 1);
+    count("serial-0");
     noted(3);
     note("a note of 33 bytes, one too many.");
     close_area();
     ask_note("note-of-33-bytes", 1);
+    count("note-of-33-bytes");
     noted(3);
     put(200, 1);
     put(0, 1);
     close_area();
     ask_note("unknown-in-version-3", 1);
+    count("unknown-in-version-3");
 }
 
 /* A later file: what the newest reader does not know is no note. */
@@ -272,6 +360,7 @@ static void later_notes(void)
     close_area();
     for (uint32_t number = 1; number <= 3; number++)
         ask_note("later", number);
+    count("later");
 }
 
 static void interface(void)
@@ -287,6 +376,8 @@ int main(void)
     records();
     rules();
     notes();
+    lengths();
+    many_notes();
     no_notes();
     later_notes();
     return 0;

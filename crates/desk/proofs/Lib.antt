@@ -1,3 +1,2 @@
-pub mod NoteLaws
 pub mod CallLaws
 pub mod Anchors

@@ -1,10 +1,12 @@
--- The call for a note in numbers: which slices are long enough, and what is in them afterwards. It holds the definitions: one that is changed together
+-- The desk's calls in numbers: which slices are long enough, and what is in them afterwards. It holds the definitions: one that is changed together
 -- with the code fails here. Assumes nothing.
 use mathlib.Core.Path.{_≡_}
 use mathlib.Core.Bool.{true, false}
 use mathlib.Core.List.{List, [], _∷_}
 use Prim.Native.Nat.{ℕ}
-use Rattle.desk.specs.Calls.{noteFits, noteResult, noteBuffer, noteAnswer}
+use Rattle.refusals.specs.Outcome.{refused}
+use Rattle.wpl.specs.Load.{loadedOf}
+use Rattle.desk.specs.Calls.{callResult, noteFits, noteBuffer, noteAnswer, checkFits, checkAnswer, notesFits, notesAnswer}
 
 -- a note, the buffer and the answer
 abbrev pub note : List ℕ
@@ -21,9 +23,24 @@ pub record NoteExample : Type 0 where
   pub enough : noteFits 32 1 ≡ true
   pub narrow : noteFits 31 1 ≡ false
   pub unanswered : noteFits 32 0 ≡ false
-  pub accepted : noteResult true ≡ 0
+  pub accepted : callResult true ≡ 0
   pub shown : noteBuffer true note buffer ≡ 65 ∷ 66 ∷ 3 ∷ []
   pub counted : noteAnswer true note answer ≡ 2 ∷ 9 ∷ 10 ∷ []
   -- too short: 100, "and nothing at all is written"
-  pub refused : noteResult false ≡ 100
+  pub refused : callResult false ≡ 100
   pub kept : (noteBuffer false note buffer ≡ buffer) × (noteAnswer false note answer ≡ answer)
+
+-- the answer holds 8, 9, 10 before, and is cut to two words, to one or to none
+pub record CheckExample : Type 0 where
+  pub enough : checkFits (8 ∷ 9 ∷ []) ≡ true
+  pub short : checkFits (8 ∷ []) ≡ false
+  -- refused 6 at 25
+  pub told : checkAnswer true (loadedOf (refused 6 25)) answer ≡ 6 ∷ 25 ∷ 10 ∷ []
+  pub kept : checkAnswer false (loadedOf (refused 6 25)) answer ≡ answer
+
+pub record CountExample : Type 0 where
+  pub enough : notesFits (8 ∷ []) ≡ true
+  pub short : notesFits [] ≡ false
+  -- four notes
+  pub told : notesAnswer true 4 answer ≡ 4 ∷ 9 ∷ 10 ∷ []
+  pub kept : notesAnswer false 4 answer ≡ answer

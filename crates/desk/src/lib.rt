@@ -5,14 +5,19 @@ ghost use Prim.Native.Nat.{_≤_};
 ghost use lib.ListN.{length};
 ghost use Rattle.c_answer.specs.Words.{interface};
 ghost use Rattle.wpl.specs.Load.{loadOf, loadedOf};
-ghost use Rattle.wpl.specs.Note.{noteOf};
-ghost use Rattle.desk.specs.Calls.{mostNote, noteFits, noteResult, noteBuffer, noteAnswer};
-ghost use Rattle.desk.specs.Example.{NoteExample};
+ghost use Rattle.wpl.specs.Note.{noteOf, notesOf, Numbered};
+ghost use Rattle.desk.specs.Calls.{callResult, mostNote, noteFits, noteBuffer, noteAnswer, checkFits, checkAnswer, notesFits, notesAnswer};
+ghost use Rattle.desk.specs.Example.{NoteExample, CheckExample, CountExample};
 
-// The most bytes of a note, and the words of the answer to a note.
+// The most bytes of a note.
 const MOST_NOTE: usize = records::NOTE.high;
 
+// The words of the answers to a check, to a note, and to a count of notes.
+const CHECK: usize = 2;
+
 const NOTE: usize = 1;
+
+const NOTES: usize = 1;
 
 // The number of this interface, by which a caller knows that the archive and the header belong together.
 #[no_mangle]
@@ -27,7 +32,23 @@ pub extern "C" fn farnkuppel_interface() -> u32
 pub extern "C" fn farnkuppel_refusal(file: &[u8], reader: u32) -> u32
     ensures { λ r. ⌜ r ≡ loadedOf (loadOf reader (now (file .entry))) .refusal ⌝ }
 {
-    wpl::refusal(file, reader) as u32
+    let first = wpl::refusal(file, reader);
+    first.number as u32
+}
+
+// The same with the place of the refusal.
+#[no_mangle]
+pub extern "C" fn farnkuppel_check(file: &[u8], reader: u32, answer: &mut [u32]) -> u32
+    ensures { λ r. ⌜ r ≡ callResult (checkFits (now (answer .entry))) ⌝ }
+    ensures { λ _. ⌜ now (answer .exit) ≡ checkAnswer (checkFits (now (answer .entry))) (loadedOf (loadOf reader (now (file .entry)))) (now (answer .entry)) ⌝ }
+    ensures { λ _. ⌜ CheckExample ⌝ }
+{
+    if answer.len() < CHECK {
+        return refusals::MISFIT as u32;
+    }
+    let found = wpl::refusal(file, reader);
+    buffers::put_words(&[found.number as u32, c_answer::word(found.place)], answer);
+    0
 }
 
 // Whether a buffer has room for any note, and an answer its length.
@@ -48,7 +69,7 @@ pub extern "C" fn farnkuppel_note(
     note: &mut [u8],
     answer: &mut [u32],
 ) -> u32
-    ensures { λ r. ⌜ r ≡ noteResult (noteFits (length (now (note .entry))) (length (now (answer .entry)))) ⌝ }
+    ensures { λ r. ⌜ r ≡ callResult (noteFits (length (now (note .entry))) (length (now (answer .entry)))) ⌝ }
     ensures { λ _. ⌜ now (note .exit) ≡ noteBuffer (noteFits (length (now (note .entry))) (length (now (answer .entry)))) (noteOf (now (file .entry)) number) (now (note .entry)) ⌝ }
     ensures { λ _. ⌜ now (answer .exit) ≡ noteAnswer (noteFits (length (now (note .entry))) (length (now (answer .entry)))) (noteOf (now (file .entry)) number) (now (answer .entry)) ⌝ }
     ensures { λ _. ⌜ (length (noteOf (now (file .entry)) number) ≤ mostNote) × NoteExample ⌝ }
@@ -59,5 +80,19 @@ pub extern "C" fn farnkuppel_note(
     let bytes = wpl::note(file, number as usize);
     buffers::put_bytes(bytes, note);
     answer[0] = bytes.len() as u32;
+    0
+}
+
+// How many notes a file has: none where the newest reader refuses it.
+#[no_mangle]
+pub extern "C" fn farnkuppel_notes(file: &[u8], answer: &mut [u32]) -> u32
+    ensures { λ r. ⌜ r ≡ callResult (notesFits (now (answer .entry))) ⌝ }
+    ensures { λ _. ⌜ now (answer .exit) ≡ notesAnswer (notesFits (now (answer .entry))) (notesOf (now (file .entry))) (now (answer .entry)) ⌝ }
+    ensures { λ _. ⌜ Numbered (now (file .entry)) × CountExample ⌝ }
+{
+    if answer.len() < NOTES {
+        return refusals::MISFIT as u32;
+    }
+    answer[0] = wpl::notes(file) as u32;
     0
 }

@@ -1,6 +1,8 @@
 pub mod LoadStepLaws
 pub mod LoadLaws
 pub mod NoteLaws
+pub mod NoteLengthLaws
+pub mod CountLaws
 pub mod HeaderLaws
 pub mod PlanRecordLaws
 pub mod PlanPartLaws

@@ -46,17 +46,18 @@ module _ (f : List ℕ) (at n : ℕ) where
     note-next h = ap (noteIn n) opened ∙ choose-false _ _ _ h
 
 -- ---- a file that the newest reader refuses has no notes
-module _ (f : List ℕ) (n number : ℕ) (e : number ≡ loadedOf (loadOf newest f) .refusal) where
-  loads : isGood (loadOf newest f) ≡ eqb number 0
-  loads = loads-when newest f (loadedOf (loadOf newest f)) refl ∙ ap (λ (m : ℕ). eqb m 0) (sym e)
+module _ (f : List ℕ) (number : ℕ) (e : number ≡ loadedOf (loadOf newest f) .refusal) where
+  pub newest-loads : isGood (loadOf newest f) ≡ eqb number 0
+  newest-loads = loads-when newest f (loadedOf (loadOf newest f)) refl ∙ ap (λ (m : ℕ). eqb m 0) (sym e)
 
+module _ (f : List ℕ) (n number : ℕ) (e : number ≡ loadedOf (loadOf newest f) .refusal) where
   pub note-refused : (number ≡ 0 → ⊥) → noteOf f n ≡ []
   unfolding noteOf
-  note-refused h = choose-false _ _ _ (loads ∙ ne-eqb _ _ h)
+  note-refused h = choose-false _ _ _ (newest-loads f number e ∙ ne-eqb _ _ h)
 
   pub note-loaded : number ≡ 0 → noteOf f n ≡ noteIn n (recordsOf f)
   unfolding noteOf
-  note-loaded h = choose-true _ _ _ (loads ∙ eq-eqb _ _ h)
+  note-loaded h = choose-true _ _ _ (newest-loads f number e ∙ eq-eqb _ _ h)
 
 -- ---- the part by what was found
 module _ (x : Span) (f : List ℕ) where

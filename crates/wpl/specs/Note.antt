@@ -2,9 +2,9 @@
 -- is no such note, the part is empty." Assumes nothing.
 use mathlib.Core.Bool.{Bool}
 use mathlib.Core.List.{List, []}
-use Prim.Native.Nat.{ℕ, _-_, _≤_}
+use Prim.Native.Nat.{ℕ, _+_, _-_, _≤_}
 use lib.Dec.{eqb}
-use lib.ListN.{take, drop}
+use lib.ListN.{length, take, drop}
 use Rattle.integers.specs.Choose.{choose}
 use Rattle.refusals.specs.Outcome.{isGood}
 use Rattle.refusals.specs.Sweep.{both}
@@ -29,6 +29,23 @@ noteIn n (more k b w) = choose (wantedOf k n) b (noteIn (leftOf k n) w)
 
 unfoldable pub noteOf : List ℕ → ℕ → List ℕ
 noteOf f n = choose (isGood (loadOf newest f)) (noteIn n (recordsOf f)) []
+
+-- ---- how many notes there are: one for each record of their kind
+unfoldable pub notedOf : ℕ → ℕ
+notedOf k = choose (eqb k (noteRow .kind)) 1 0
+
+unfoldable pub notesIn : Walked → ℕ
+notesIn end = 0
+notesIn short = 0
+notesIn (more k b w) = notedOf k + notesIn w
+
+unfoldable pub notesOf : List ℕ → ℕ
+notesOf f = choose (isGood (loadOf newest f)) (notesIn (recordsOf f)) 0
+
+-- the notes that have bytes are those numbered from 1 to so many
+pub record Numbered (f : List ℕ) : Type 0 where
+  pub each : (n : ℕ) → 1 ≤ n → n ≤ notesOf f → 1 ≤ length (noteOf f n)
+  pub none-else : (n : ℕ) → 1 ≤ length (noteOf f n) → (1 ≤ n) × (n ≤ notesOf f)
 
 -- ---- by offsets, as the code finds it; for proofs alone
 abbrev pub Within : Span → ℕ → Type 0

@@ -9,6 +9,7 @@ use records::Gathered;
 use records::MARK;
 use records::SERIAL;
 use records::VERSION;
+use refusals::Refusal;
 ghost use mathlib.Core.Path.{_≡_};
 ghost use Prim.Native.Nat.{_+_, _≤_};
 ghost use lib.ListN.{length, take, drop};
@@ -27,7 +28,7 @@ ghost use Rattle.wpl.specs.Write.{carriedSince, writeOf, writtenOf, buff
 ghost use Rattle.wpl.specs.RoundTrip.{RoundTrip, EveryReader};
 ghost use Rattle.wpl.specs.Starts.{Starts};
 ghost use Rattle.wpl.specs.Order.{All, loadOrder, writeOrder};
-ghost use Rattle.wpl.specs.Note.{wantedOf, leftOf, noteIn, noteOf, Within, partOf};
+ghost use Rattle.wpl.specs.Note.{wantedOf, leftOf, noteIn, noteOf, notedOf, notesIn, notesOf, Numbered, Within, partOf};
 
 // The newest version.
 pub const NEWEST: u32 = 3;
@@ -259,13 +260,17 @@ pub fn load(file: &[u8], reader: u32) -> Loaded
     }
 }
 
-// The first refusal of a file for a reader of a version, 0 for none.
-pub fn refusal(file: &[u8], reader: u32) -> u8
-    ensures { λ r. ⌜ r ≡ loadedOf (loadOf reader (now (file .entry))) .refusal ⌝ }
+// The first refusal of a file for a reader of a version, with its place; both are 0 for none.
+pub fn refusal(file: &[u8], reader: u32) -> Refusal
+    ensures { λ r. ⌜ r .number ≡ loadedOf (loadOf reader (now (file .entry))) .refusal ⌝ }
+    ensures { λ r. ⌜ r .place ≡ loadedOf (loadOf reader (now (file .entry))) .place ⌝ }
 {
     let mut numbers = [0i32; plan::NUMBERS];
     let entered = load_into(file, reader, &mut numbers);
-    entered.refusal
+    Refusal {
+        number: entered.refusal,
+        place: entered.place,
+    }
 }
 
 // The least version that can carry a plan of a mode: the first that has the newest kind of its records.
@@ -427,11 +432,51 @@ fn find_note(file: &[u8], number: usize) -> Span
 pub fn note(file: &[u8], number: usize) -> &[u8]
     ensures { λ r. ⌜ now r ≡ noteOf (now (file .entry)) number ⌝ }
 {
-    if refusal(file, NEWEST) != 0 {
+    let found = refusal(file, NEWEST);
+    if found.number != 0 {
         return &file[..0];
     }
     match find_note(file, number) {
         Span::At { start, end } => &file[start..end],
         Span::Nothing => &file[..0],
     }
+}
+
+// How many notes a record is: 1 or 0.
+fn noted(kind: u8) -> usize
+    ensures { λ r. ⌜ r ≡ notedOf kind ⌝ }
+{
+    if kind != records::NOTE.kind {
+        return 0;
+    }
+    1
+}
+
+// The notes among a file's records, up to one that is cut short.
+fn count_notes(file: &[u8]) -> usize
+    ensures { λ r. ⌜ r ≡ notesIn (recordsOf (now (file .entry))) ⌝ }
+{
+    let mut at: usize = records::HEADER;
+    let mut count: usize = 0;
+    while at < file.len() {
+        let to = records::end_at(file, at);
+        if to == 0 {
+            return count;
+        }
+        count += noted(file[at]);
+        at = to;
+    }
+    count
+}
+
+// How many notes a file has, 0 where the newest reader refuses it.
+pub fn notes(file: &[u8]) -> usize
+    ensures { λ r. ⌜ r ≡ notesOf (now (file .entry)) ⌝ }
+    ensures { λ _. ⌜ Numbered (now (file .entry)) ⌝ }
+{
+    let found = refusal(file, NEWEST);
+    if found.number != 0 {
+        return 0;
+    }
+    count_notes(file)
 }

@@ -36,6 +36,14 @@ mod c {
             answer_length: usize,
         ) -> u32;
         pub fn farnkuppel_refusal(file: *const u8, length: usize, reader: u32) -> u32;
+        pub fn farnkuppel_check(
+            file: *const u8,
+            file_length: usize,
+            reader: u32,
+            answer: *mut u32,
+            answer_length: usize,
+        ) -> u32;
+        pub fn farnkuppel_notes(file: *const u8, file_length: usize, answer: *mut u32, answer_length: usize) -> u32;
         pub fn farnkuppel_note(
             file: *const u8,
             file_length: usize,
@@ -105,6 +113,16 @@ pub fn write(state: &[i32], version: u32, file: &mut [u8], answer: &mut [u32]) -
 pub fn refusal(file: &[u8], reader: u32) -> u32 {
     // SAFETY: the pointer comes with the length of its slice.
     unsafe { c::farnkuppel_refusal(file.as_ptr(), file.len(), reader) }
+}
+
+pub fn check(file: &[u8], reader: u32, answer: &mut [u32]) -> u32 {
+    // SAFETY: every pointer comes with the length of its slice, and the slices are apart.
+    unsafe { c::farnkuppel_check(file.as_ptr(), file.len(), reader, answer.as_mut_ptr(), answer.len()) }
+}
+
+pub fn notes(file: &[u8], answer: &mut [u32]) -> u32 {
+    // SAFETY: every pointer comes with the length of its slice, and the slices are apart.
+    unsafe { c::farnkuppel_notes(file.as_ptr(), file.len(), answer.as_mut_ptr(), answer.len()) }
 }
 
 pub fn note(file: &[u8], number: u32, note: &mut [u8], answer: &mut [u32]) -> u32 {

@@ -2,4 +2,6 @@
 
 pub use archive::calls::*;
 pub use archive::number::{INTERFACE, REFUSED_MISFIT as MISFIT};
-pub use archive::size::{ANSWER_WORDS, COMMAND_NUMBERS, LOAD_WORDS, NOTE_BYTES, NOTE_WORDS, WRITE_WORDS};
+pub use archive::size::{
+    ANSWER_WORDS, CHECK_WORDS, COMMAND_NUMBERS, LOAD_WORDS, NOTES_WORDS, NOTE_BYTES, NOTE_WORDS, WRITE_WORDS,
+};

@@ -1,7 +1,7 @@
 //! Each call made twice, by the reference and by the compiled manager, and every word compared.
 
 use crate::notes::Notes;
-use compiled::calls::{self, ANSWER_WORDS, COMMAND_NUMBERS, LOAD_WORDS, MISFIT, WRITE_WORDS};
+use compiled::calls::{self, ANSWER_WORDS, CHECK_WORDS, COMMAND_NUMBERS, LOAD_WORDS, MISFIT, NOTES_WORDS, WRITE_WORDS};
 use compiled::words::{self, hex_of_bytes, hex_of_words, Words, SERIAL, STATE_WORDS};
 use reference::{load, write, State};
 
@@ -54,16 +54,18 @@ impl Tally {
         let mut state = [STATE_PATTERN; STATE_WORDS + SPARE];
         let mut answer = [PATTERN; LOAD_WORDS + 1];
         let result = calls::load(file, reader, &mut state, &mut answer);
-        let desk = calls::refusal(file, reader);
+        let mut checked = [PATTERN; CHECK_WORDS + 1];
+        let desk = (calls::refusal(file, reader), calls::check(file, reader, &mut checked));
         self.loads += 1;
         self.load_refusals[number as usize] += 1;
-        if (result, desk, answer, state) != (number, number, answer_wanted, state_wanted) {
+        let desk_agrees = (desk, checked) == ((number, 0), answer_wanted);
+        if (result, answer, state) != (number, answer_wanted, state_wanted) || !desk_agrees {
             let file = hex_of_bytes(file);
             let differing = first_difference(&state, &state_wanted);
             self.disagree(
                 case,
                 format!(
-                    "reader {reader} reference {number} at {place} compiled {result} {answer:?} desk {desk} \
+                    "reader {reader} reference {number} at {place} compiled {result} {answer:?} desk {desk:?} {checked:?} \
                      state {differing} file {file}"
                 ),
             );
@@ -166,12 +168,14 @@ impl Tally {
             calls::fix(&mut lent, serial, [0.0; 3], &mut answer, &mut command[..less(COMMAND_NUMBERS)]),
             calls::write(&lent[..less(STATE_WORDS)], 3, &mut room, &mut answer),
             calls::write(&lent, 3, &mut room, &mut answer[..less(WRITE_WORDS)]),
+            calls::check(file, 3, &mut answer[..less(CHECK_WORDS)]),
+            calls::notes(file, &mut answer[..less(NOTES_WORDS)]),
         ];
         let untouched = lent == *state
             && answer == [PATTERN; ANSWER_WORDS]
             && command.map(f32::to_bits) == [PATTERN; COMMAND_NUMBERS]
             && room == [BYTE_PATTERN; 1200];
-        if results != [MISFIT; 7] || !untouched {
+        if results != [MISFIT; 9] || !untouched {
             let (file, held) = (hex_of_bytes(file), hex_of_words(state));
             self.disagree(case, format!("short by {cut} results {results:?} untouched {untouched} file {file} state {held}"));
         }

@@ -1,12 +1,12 @@
-//! The run of notes, and its comparison.
+//! The run of notes and their counts, and its comparison.
 
 use crate::chance::Chance;
 use crate::compare::{Case, Tally, BYTE_PATTERN, PATTERN, SPARE};
 use crate::files::{noted_file, random_file};
-use compiled::calls::{self, MISFIT, NOTE_BYTES, NOTE_WORDS};
+use compiled::calls::{self, MISFIT, NOTES_WORDS, NOTE_BYTES, NOTE_WORDS};
 use compiled::words::hex_of_bytes;
 use reference::file::NEWEST;
-use reference::{load, note};
+use reference::{load, note, notes};
 
 /// How the notes came out.
 #[derive(Default)]
@@ -17,13 +17,15 @@ pub struct Notes {
     missing: u64,
     of_refused_files: u64,
     misfits: u64,
+    /// The most that a file had.
+    most: usize,
 }
 
 impl Notes {
     pub fn counts(&self) -> String {
-        let Notes { found, missing, of_refused_files, misfits, .. } = self;
+        let Notes { found, missing, of_refused_files, misfits, most, .. } = self;
         let (all, least) = (found.iter().sum::<u64>(), found.iter().min().unwrap_or(&0));
-        format!("notes found {all} (of each length at least {least}) missing {missing} of refused files {of_refused_files} misfits {misfits}")
+        format!("notes found {all} (of each length at least {least}) missing {missing} of refused files {of_refused_files} misfits {misfits} most in a file {most}")
     }
 
     fn count(&mut self, file: &[u8], length: usize, fits: bool) {
@@ -87,11 +89,30 @@ fn compare(tally: &mut Tally, case: Case, file: &[u8], question: &Question) {
     }
 }
 
+/// How many notes there are, with as much lent as for the note.
+fn compare_count(tally: &mut Tally, case: Case, file: &[u8], words: usize) {
+    let count = notes(file);
+    let mut answer = [PATTERN; NOTES_WORDS + 2 * SPARE];
+    let mut answer_wanted = answer;
+    let mut result_wanted = MISFIT;
+    if words >= NOTES_WORDS {
+        (result_wanted, answer_wanted[0]) = (0, count as u32);
+    }
+    let result = calls::notes(file, &mut answer[..words]);
+    tally.notes.most = tally.notes.most.max(count);
+    if (result, answer) != (result_wanted, answer_wanted) {
+        let file = hex_of_bytes(file);
+        tally.disagree(case, format!("notes {count} words {words} compiled {result} {answer:?} file {file}"));
+    }
+}
+
 pub fn run(tally: &mut Tally, n: u64, seed: u64) {
     for number in 0..n {
         let case = Case { part: "note", seed, number };
         let c = &mut Chance::new(seed, number);
         let file = if c.one_in(4) { random_file(c) } else { noted_file(c) };
-        compare(tally, case, &file, &random_question(c));
+        let question = random_question(c);
+        compare(tally, case, &file, &question);
+        compare_count(tally, case, &file, question.words);
     }
 }

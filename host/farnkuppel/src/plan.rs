@@ -3,9 +3,9 @@
 use crate::layout;
 use archive::number::{ACCEPTED, MODE_DUBINS, MODE_FILLETS};
 use archive::size::{
-    LOAD_PLACE, LOAD_WORDS, NOTE_BYTES, NOTE_LENGTH, NOTE_WORDS, STATE_COUNT, STATE_COURSES, STATE_DOWNS, STATE_EASTS,
-    STATE_MODE, STATE_NORTHS, STATE_RADIUS, STATE_SERIAL, STATE_WORDS, WRITE_LENGTH, WRITE_PLACE, WRITE_WORDS,
-    WRITTEN_BYTES,
+    LOAD_PLACE, LOAD_WORDS, NOTES_COUNT, NOTES_WORDS, NOTE_BYTES, NOTE_LENGTH, NOTE_WORDS, STATE_COUNT, STATE_COURSES,
+    STATE_DOWNS, STATE_EASTS, STATE_MODE, STATE_NORTHS, STATE_RADIUS, STATE_SERIAL, STATE_WORDS, WRITE_LENGTH,
+    WRITE_PLACE, WRITE_WORDS, WRITTEN_BYTES,
 };
 use archive::{calls, refusal_words, State};
 use std::fmt::{self, Display};
@@ -105,14 +105,18 @@ impl Plan {
     }
 }
 
-/// The notes of a file, in their order. Every note has a byte at least.
+/// A note of a file, by its number from 1.
+fn note(file: &[u8], number: u32) -> Vec<u8> {
+    let mut bytes = vec![0; NOTE_BYTES];
+    let mut answer = [0; NOTE_WORDS];
+    calls::note(file, number, &mut bytes, &mut answer);
+    bytes.truncate(answer[NOTE_LENGTH] as usize);
+    bytes
+}
+
+/// The notes of a file, in their order.
 pub fn notes(file: &[u8]) -> Vec<Vec<u8>> {
-    let note = |number: u32| {
-        let mut bytes = vec![0; NOTE_BYTES];
-        let mut answer = [0; NOTE_WORDS];
-        calls::note(file, number, &mut bytes, &mut answer);
-        bytes.truncate(answer[NOTE_LENGTH] as usize);
-        bytes
-    };
-    (1..).map(note).take_while(|bytes| !bytes.is_empty()).collect()
+    let mut answer = [0; NOTES_WORDS];
+    calls::notes(file, &mut answer);
+    (1..=answer[NOTES_COUNT]).map(|number| note(file, number)).collect()
 }

@@ -192,6 +192,19 @@ pub fn note(file: &[u8], number: usize) -> Range<usize> {
     0..0
 }
 
+/// How many notes there are; none where the file doesn't load at version three.
+pub fn notes(file: &[u8]) -> usize {
+    if load(file, NEWEST).is_err() {
+        return 0;
+    }
+    let (mut at, mut seen) = (HEADER, 0);
+    while let Some(body) = body_at(file, at) {
+        seen += usize::from(file[at] == NOTE);
+        at = body.end;
+    }
+    seen
+}
+
 /// The lowest version that has every kind a mode needs.
 pub fn needed_version(mode: Mode) -> u32 {
     match mode {
@@ -302,5 +315,13 @@ mod tests {
         assert_eq!(&file[note(&file, 1)], b"A");
         assert_eq!(&file[note(&file, 2)], b"BC");
         assert_eq!(note(&file, 3), 0..0);
+    }
+
+    #[test]
+    fn speeds_and_refused_files_count_no_notes() {
+        let records = [128, 1, 65, 129, 2, 1, 244, 128, 2, 66, 67];
+        assert_eq!(notes(&with_record(3, &records)), 2);
+        assert_eq!(notes(&with_record(2, &records)), 0);
+        assert_eq!(notes(&with_record(2, &[])), 0);
     }
 }

@@ -12,7 +12,7 @@ pub mod lines;
 pub mod rules;
 pub mod state;
 
-pub use file::{load, note, write};
+pub use file::{load, note, notes, write};
 pub use fix::{Answer, Command};
 pub use state::{Mode, State};
 

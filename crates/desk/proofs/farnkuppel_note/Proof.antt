@@ -6,7 +6,7 @@ use lib.ListN.{length}
 use lib.Seq.{sets-eq}
 use borrow.Author.Tests.{not-true, not-false}
 use borrow.Author.Needs.{needs}
-use Rattle.desk.proofs.NoteLaws.{note-short, given-short}
+use Rattle.wpl.proofs.NoteLengthLaws.{note-short, given-short}
 use Rattle.desk.proofs.Anchors.{in-numbers}
 use Rattle.desk.proofs.CallLaws.{fits-means, show-unfit, show-fit}
 use Rattle.desk.proofs.farnkuppel_note.Statement.{statement}

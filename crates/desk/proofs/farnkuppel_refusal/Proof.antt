@@ -10,7 +10,7 @@ cast-result : tie.Need-cast-result
 cast-result c = search needs
 
 returns : tie.Need-returns
-returns c = c .refusal .ensures
+returns c = c .before .refusal .ensures .0
 
 pub farnkuppel-refusal-spec : {M : Type 1} → statement M
 farnkuppel-refusal-spec = tie.close (tie.spec refusal-requires cast-result returns)

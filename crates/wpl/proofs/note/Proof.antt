@@ -12,7 +12,7 @@ slice-aggregate-result : tie.Need-slice-aggregate-result
 slice-aggregate-result c = search needs
 
 returns : tie.Need-returns
-returns c = sym (note-refused _ _ _ (c .before .before .refusal .ensures) (c .before .if1 .taken))
+returns c = sym (note-refused _ _ _ (c .before .before .before .refusal .ensures .0) (c .before .if1 .taken))
 
 find-note-requires : tie.Need-find-note-requires
 find-note-requires c κs = search needs
@@ -49,13 +49,13 @@ returns-2 c =
     let g = c .before .before .start .given in
     let n = c .before .before .before .before in
     let e = n .before in
-    part-at _ _ (g .0 .0) (g .0 .1 .0) (g .1) ∙ n .find-note .ensures .0 ∙ sym (note-loaded _ _ _ (e .before .refusal .ensures) (e .if1 .left))
+    part-at _ _ (g .0 .0) (g .0 .1 .0) (g .1) ∙ n .find-note .ensures .0 ∙ sym (note-loaded _ _ _ (e .before .before .refusal .ensures .0) (e .if1 .left))
 
 returns-3 : tie.Need-returns-3
 returns-3 c =
     let n = c .before .before .before in
     let e = n .before in
-    part-nothing _ _ (c .before .enum-told .given .1) ∙ n .find-note .ensures .0 ∙ sym (note-loaded _ _ _ (e .before .refusal .ensures) (e .if1 .left))
+    part-nothing _ _ (c .before .enum-told .given .1) ∙ n .find-note .ensures .0 ∙ sym (note-loaded _ _ _ (e .before .before .refusal .ensures .0) (e .if1 .left))
 
 pub note-spec : {M : Type 1} → statement M
 note-spec =

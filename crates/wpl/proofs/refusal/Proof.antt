@@ -1,4 +1,4 @@
--- `refusal` gives the number of a load. Assumes nothing.
+-- `refusal` gives the number and the place of a load. Assumes nothing.
 use mathlib.Core.Path.{ap}
 use Rattle.wpl.specs.declared.Entered.{Entered}
 use borrow.Author.Needs.{needs}
@@ -12,7 +12,9 @@ load-into-requires : tie.Need-load-into-requires
 load-into-requires c κs = search needs
 
 returns : tie.Need-returns
-returns c = ap (λ (x : Entered). x .refusal) (c .before .load-into .ensures .0)
+returns c =
+    let e = c .before .load-into .ensures .0 in
+    (ap (λ (x : Entered). x .refusal) e, ap (λ (x : Entered). x .place) e)
 
 pub refusal-spec : {M : Type 1} → statement M
 refusal-spec = tie.close (tie.spec slice-aggregate-load-into load-into-requires returns)

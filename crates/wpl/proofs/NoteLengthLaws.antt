@@ -1,4 +1,4 @@
--- A note has at most 32 bytes: the newest reader knows notes, and refuses a file with one of another length. Assumes nothing.
+-- A note has from 1 to 32 bytes: the newest reader knows notes, and refuses a file with one of another length. Assumes nothing.
 use mathlib.Core.Path.{_≡_, refl, sym, _∙_}
 use mathlib.Core.Bool.{true, false}
 use mathlib.Core.List.{List, []}
@@ -8,20 +8,22 @@ use lib.ListN.{length}
 use borrow.Author.Tests.{eqb-true, leb-true}
 use Rattle.integers.specs.Choose.{choose}
 use Rattle.integers.proofs.ChooseLaws.{choose-true, choose-false}
-use Rattle.refusals.specs.Numbers.{noVersion}
 use Rattle.refusals.specs.Outcome.{Outcome, good, refused, isGood}
 use Rattle.refusals.specs.Sweep.{both}
 use Rattle.refusals.proofs.Bools.{by-bool, clash, both-first, both-second}
-use Rattle.refusals.proofs.OutcomeLaws.{check-means, then-means}
 use Rattle.manager.specs.declared.State.{State}
 use Rattle.records.specs.Walk.{Walked, end, short, more}
-use Rattle.records.specs.Kinds.{newest, between, knows, rowOf, rowIn, table, Parts, takes, knownRule, judge}
+use Rattle.records.specs.Kinds.{newest, noteRow, between, knows, rowOf, rowIn, table, Parts, takes, knownRule, judge}
 use Rattle.records.specs.Gather.{gather}
 use Rattle.records.proofs.RuleLaws.{judge-known}
 use Rattle.records.proofs.VersionLaws.{test-passed, after-good}
-use Rattle.wpl.specs.Load.{recordsOf, partsOf, bodyOf, loadOf}
+use Rattle.wpl.specs.Load.{recordsOf, partsOf, loadOf}
 use Rattle.wpl.specs.Note.{wantedOf, leftOf, noteIn, noteOf}
-use Rattle.desk.specs.Calls.{mostNote}
+use Rattle.wpl.proofs.LoadStepLaws.{load-steps}
+
+-- "128 note: 1..32 bytes"
+abbrev mostNote : ℕ
+mostNote = noteRow .high
 
 -- ---- the row of notes
 notes-known : knows newest 128 ≡ true
@@ -32,17 +34,17 @@ within : (v : ℕ) (b : List ℕ) (a a₁ : Parts) → knownRule v 128 b a ≡ t
 unfolding knownRule rowOf rowIn table choose
 within v b a a₁ h = both-second _ _ (test-passed _ _ a₁ h .0)
 
-at-most : (x : ℕ) → between 1 mostNote x ≡ true → x ≤ mostNote
+in-bounds : (x : ℕ) → between 1 mostNote x ≡ true → (1 ≤ x) × (x ≤ mostNote)
 unfolding between
-at-most x h = leb-true x mostNote (both-second _ _ h)
+in-bounds x h = (leb-true 1 x (both-first _ _ h), leb-true x mostNote (both-second _ _ h))
 
-note-taken : (v k : ℕ) (b : List ℕ) (a a₁ : Parts) → k ≡ 128 → judge newest v k b a ≡ takes a₁ → length b ≤ mostNote
+pub note-taken : (v k : ℕ) (b : List ℕ) (a a₁ : Parts) → k ≡ 128 → judge newest v k b a ≡ takes a₁ → (1 ≤ length b) × (length b ≤ mostNote)
 note-taken v k b a a₁ e h =
     let j : judge newest v 128 b a ≡ takes a₁ = rw e at h in
-    at-most (length b) (within v b a a₁ (sym (judge-known newest v 128 b a notes-known) ∙ j))
+    in-bounds (length b) (within v b a a₁ (sym (judge-known newest v 128 b a notes-known) ∙ j))
 
 -- ---- the whole walk
-wanted-note : (k n : ℕ) → wantedOf k n ≡ true → k ≡ 128
+pub wanted-note : (k n : ℕ) → wantedOf k n ≡ true → k ≡ 128
 unfolding wantedOf
 wanted-note k n h = eqb-true k 128 (both-first _ _ h)
 
@@ -53,27 +55,21 @@ short-in v short n at a b h = omega arith
 short-in v (more k c w) n at a b h =
     let x = after-good (judge newest v k c a) at (λ (d : Parts). gather newest v (at + 2 + length c) d w) b h in
     by-bool (wantedOf k n)
-    (λ t. rw (choose-true (wantedOf k n) c (noteIn (leftOf k n) w) t) (note-taken v k c a (x .0) (wanted-note k n t) (x .1 .0)))
+    (λ t. rw (choose-true (wantedOf k n) c (noteIn (leftOf k n) w) t) (note-taken v k c a (x .0) (wanted-note k n t) (x .1 .0) .1))
     (λ t. rw (choose-false (wantedOf k n) c (noteIn (leftOf k n) w) t) (short-in v w (leftOf k n) (at + 2 + length c) (x .0) b (x .1 .1)))
 
 -- ---- a file
-good-state : (o : Outcome State) → isGood o ≡ true → (s : State) × (o ≡ good s)
+pub good-state : (o : Outcome State) → isGood o ≡ true → (s : State) × (o ≡ good s)
 unfolding isGood
 good-state (good s) h = (s, refl)
 good-state (refused n p) h = clash false h refl
-
-parts-good : (f : List ℕ) (s : State) → loadOf newest f ≡ good s → (a : Parts) × (partsOf newest f ≡ good a)
-unfolding loadOf bodyOf
-parts-good f s h =
-    let x = then-means _ _ s (then-means _ _ s (check-means _ noVersion _ s h .1) .1 .1) in
-    (x .0, x .1 .0)
 
 loaded-short : (f : List ℕ) (n : ℕ) → isGood (loadOf newest f) ≡ true → length (noteIn n (recordsOf f)) ≤ mostNote
 unfolding partsOf
 loaded-short f n h =
     let s = good-state (loadOf newest f) h in
-    let p = parts-good f (s .0) (s .1) in
-    short-in _ (recordsOf f) n _ _ (p .0) (p .1)
+    let p = load-steps newest f (s .0) (s .1) in
+    short-in _ (recordsOf f) n _ _ (p .taken) (p .gathered)
 
 pub note-short : (f : List ℕ) (n : ℕ) → length (noteOf f n) ≤ mostNote
 unfolding noteOf
