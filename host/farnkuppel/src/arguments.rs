@@ -8,7 +8,8 @@ use std::fmt::Display;
 use std::io::Write;
 use std::str::FromStr;
 
-/// A command: its name, the names of its files, its options as the usage line has them, its help, and what it does.
+/// A command: its name, the names of its files, its options as the usage line has them, what it does in a few words, its help, and the function
+/// that does it.
 pub struct Command {
     pub name: &'static str,
     pub files: &'static [&'static str],

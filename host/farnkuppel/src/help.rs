@@ -14,7 +14,7 @@ const COMMON: &str = "
 Units: points and radii are whole decimetres; north, east and down. Courses and headings are 1/4096 of a circle, clockwise from north.
 Fixes and commands are in metres.
 Exit status: 0 done; 1 the plan is refused, and the answer says why: refused NUMBER at PLACE: REASON; 2 usage or file trouble, one line
-on standard error. Files are written whole or not at all, and never over an input. An option ends at --; a file's name can be -.
+on standard error. Files are written whole or not at all, and never over an input. Options end at --; a file's name can be -.
 ";
 
 pub const CHECK: &str = "\

@@ -8,8 +8,9 @@ use std::fs::File;
 use std::io::{BufRead, BufReader, Read};
 use std::os::unix::fs::MetadataExt;
 
-/// The longest line of a text that is read, in bytes.
+/// The longest line of a text that is read, in bytes, and the most lines.
 const LONGEST_LINE: usize = 4096;
+const MOST_LINES: usize = 10_000_000;
 
 /// An open file, with its name as it is shown and what tells it apart from every other file: its device and its number there.
 pub struct Input {
@@ -55,6 +56,9 @@ impl Input {
             number += 1;
             if line.len() > LONGEST_LINE {
                 return Err(self.wrong(number, &format!("longer than {LONGEST_LINE} bytes")));
+            }
+            if number > MOST_LINES {
+                return Err(self.wrong(number, &format!("more than {MOST_LINES} lines")));
             }
             let words = String::from_utf8_lossy(&line);
             let words = words.trim();

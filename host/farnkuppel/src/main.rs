@@ -11,6 +11,7 @@ mod layout;
 mod names;
 mod output;
 mod picture;
+mod place;
 mod plan;
 mod simulation;
 mod stop;

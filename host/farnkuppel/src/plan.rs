@@ -31,6 +31,8 @@ pub enum Mode {
 }
 
 impl Mode {
+    pub const ALL: [Mode; 3] = [Mode::Lines, Mode::Fillets, Mode::Dubins];
+
     pub fn name(self) -> &'static str {
         match self {
             Mode::Lines => "lines",

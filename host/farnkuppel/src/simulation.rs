@@ -3,7 +3,7 @@
 
 use crate::fixes::{Fix, MOST_FIXES};
 use crate::flight::{Flight, Path};
-use crate::picture::Place;
+use crate::place::Place;
 use crate::plan::{Plan, Point, Refusal};
 use archive::number::CIRCLE;
 use std::f64::consts::{PI, TAU};

@@ -4,7 +4,7 @@ use crate::arguments::{number_of, whole};
 use crate::input::Input;
 use crate::layout::{self, Draft, COURSE, NOTE, POINT, RADIUS, SPEED};
 use crate::names;
-use crate::plan::{self, Plan, Refusal};
+use crate::plan::{self, Mode, Plan, Refusal};
 use crate::stop::Stop;
 use archive::number;
 
@@ -49,7 +49,7 @@ pub fn whole_text(plan: &Plan, file: &[u8]) -> Vec<String> {
 pub struct Written {
     pub version: u16,
     pub file: Vec<u8>,
-    mode: String,
+    mode: Mode,
     title_line: usize,
     record_lines: Vec<(usize, usize)>,
     point_lines: Vec<usize>,
@@ -62,6 +62,14 @@ struct Reading {
     written: Written,
 }
 
+fn mode_of(word: &str) -> Result<Mode, String> {
+    let found = Mode::ALL.into_iter().find(|mode| mode.name() == word);
+    found.ok_or_else(|| {
+        let all = Mode::ALL.map(Mode::name).join(", ");
+        format!("mode {} is none of {all}", names::word(word.as_ref()))
+    })
+}
+
 /// The first line.
 fn read_title(line: usize, words: &[&str]) -> Result<Reading, String> {
     let ["plan", serial, "version", version, "mode", mode, "points", count] = words else {
@@ -69,11 +77,8 @@ fn read_title(line: usize, words: &[&str]) -> Result<Reading, String> {
     };
     let serial = number_of("serial", serial, 0, u32::MAX)?;
     let version = number_of("version", version, 0, u16::MAX)?;
-    if !["lines", "fillets", "dubins"].contains(mode) {
-        return Err(format!("mode {} is none of lines, fillets, dubins", names::word(mode.as_ref())));
-    }
+    let mode = mode_of(mode)?;
     let count = number_of("count", count, 0, u32::MAX)? as usize;
-    let mode = mode.to_string();
     let (file, record_lines, point_lines) = (Vec::new(), Vec::new(), Vec::new());
     let written = Written { version, file, mode, title_line: line, record_lines, point_lines };
     Ok(Reading { draft: Draft::new(version, serial), count, written })
@@ -139,13 +144,12 @@ impl Written {
     /// The plan, where its mode is the one that the text says. It is loaded from records, so that the library's rules decide.
     pub fn plan(&self, input: &Input) -> Result<Result<Plan, Refusal>, Stop> {
         let loaded = Plan::load(&self.file, number::NEWEST);
-        let mode = loaded.as_ref().ok().map(|plan| plan.mode().name());
-        match mode.filter(|mode| *mode != self.mode) {
-            Some(mode) => {
-                let what = format!("says mode {}, and what follows makes it {mode}", self.mode);
+        match loaded.as_ref().map(Plan::mode) {
+            Ok(mode) if mode != self.mode => {
+                let what = format!("says mode {}, and what follows makes it {}", self.mode.name(), mode.name());
                 Err(input.wrong(self.title_line, &what))
             }
-            None => Ok(loaded),
+            _ => Ok(loaded),
         }
     }
 

@@ -4,7 +4,7 @@ use super::frame::{Extent, Frame, LEFT, TOP};
 use super::legend::{colour, cross, legend};
 use super::marks::{legs, points};
 use super::track::{Circle, Step, Track};
-use super::Place;
+use crate::place::Place;
 use crate::plan::{Mode, Plan};
 
 /// The most places that are drawn of a track, and the pixels between two of them: at the least, and where the track is

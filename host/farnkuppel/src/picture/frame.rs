@@ -1,6 +1,6 @@
 //! The map's frame: where a place in metres stands on the picture.
 use super::track::Circle;
-use super::Place;
+use crate::place::Place;
 
 /// Where the map begins, in pixels from the left and the top of the picture.
 pub const LEFT: f64 = 64.0;

@@ -1,7 +1,7 @@
 //! The plan on the map: its legs, and its points with their numbers and courses.
 
 use super::frame::Frame;
-use super::Place;
+use crate::place::Place;
 use crate::plan::Plan;
 use archive::number::CIRCLE;
 use std::f64::consts::{FRAC_PI_2, TAU};

@@ -1,8 +1,8 @@
 //! A flight to draw: the fixes put together with what the library answers them.
 
-use super::Place;
 use crate::fixes::Fix;
 use crate::flight::{Flight, Path};
+use crate::place::Place;
 use crate::plan::Plan;
 
 /// A circle that was commanded, level: its centre and its radius in metres.
