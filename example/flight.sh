@@ -32,7 +32,7 @@ folder=$(dirname -- "$picture")
 [ -w "$folder" ] || stop "$picture: its folder cannot be written to"
 [ ! "$picture" -ef "$plan" ] || stop "$picture: is the plan, and is not written over"
 for tool in rt cargo objcopy; do
-    command -v $tool > /dev/null || stop "$tool is not installed"
+    command -v "$tool" > /dev/null || stop "$tool is not installed"
 done
 
 farnkuppel=$root/host/target/release/farnkuppel
