@@ -8,10 +8,14 @@ import struct
 import sys
 
 ROOT = os.path.join(os.path.dirname(os.path.abspath(__file__)), "..")
+sys.path.insert(0, os.path.join(ROOT, "tests"))
+from header import numbers  # noqa: E402
+
 FIX, NAMED, NEAR, FLY, WRITE, SET, FIX_SET = range(7)
 NEWEST, MENDED = 3, 128
-SERIAL, MODE, RADIUS_WORD, COUNT, INDEX, PHASE, FINISHED = range(7)
-PLACES, NORTHS, EASTS, DOWNS, COURSES = 64, 7, 71, 135, 199
+SERIAL, MODE, RADIUS_WORD, COUNT = numbers("STATE_SERIAL", "STATE_MODE", "STATE_RADIUS", "STATE_COUNT")
+INDEX, PHASE, FINISHED = numbers("STATE_INDEX", "STATE_PHASE", "STATE_FINISHED")
+PLACES, NORTHS, EASTS, DOWNS, COURSES = numbers("MOST_POINTS", "STATE_NORTHS", "STATE_EASTS", "STATE_DOWNS", "STATE_COURSES")
 
 
 def read(path):
@@ -95,7 +99,7 @@ def loading():
         yield seed(plan(3, *dubins(*courses)), fly(200, 15), write(NEWEST))
         yield seed(plan(4, pair(129, 500), *dubins(*courses), record(200, b"later")), fly(200, 25))
     yield seed(plan(3, record(128, b"start"), *LEGS, pair(129, 500)), fly(50, 10))
-    zigzag = [point(1000 * i, 800 * (i % 2)) for i in range(64)]
+    zigzag = [point(1000 * i, 800 * (i % 2)) for i in range(PLACES)]
     yield seed(plan(1, *zigzag), fly(200, 60))
     yield seed(plan(3, RADIUS, *[r for leg in zigzag for r in (leg, pair(3, 64))]), fly(200, 40), write(NEWEST))
 

@@ -15,8 +15,12 @@ from pathlib import Path
 
 from tables import LAST_LEG, rows, state_stands
 
-STATE, BLOCKS, COURSES = 263, (7, 71, 135), 199
-KINDS = {"none": 0, "line": 1, "circle": 2}
+sys.path.insert(0, str(Path(__file__).resolve().parent.parent))
+from header import numbers  # noqa: E402
+
+STATE, *BLOCKS, COURSES = numbers("STATE_WORDS", "STATE_NORTHS", "STATE_EASTS", "STATE_DOWNS", "STATE_COURSES")
+ANSWER, WRITTEN, COMMAND = numbers("ANSWER_WORDS", "WRITE_WORDS", "COMMAND_NUMBERS")
+KINDS = dict(zip(("none", "line", "circle"), numbers("COMMAND_NONE", "COMMAND_LINE", "COMMAND_CIRCLE")))
 
 
 def words_of(row):
@@ -38,9 +42,10 @@ def signed(number):
 
 def fixed(library, row, words):
     """What the fix answers, in the file's columns, and the words afterwards."""
-    state, answer, command = (ctypes.c_int32 * STATE)(*words), (ctypes.c_uint32 * 8)(), (ctypes.c_float * 6)()
+    state, answer, command = (ctypes.c_int32 * STATE)(*words), (ctypes.c_uint32 * ANSWER)(), (ctypes.c_float * COMMAND)()
     place = [struct.unpack(">f", bytes.fromhex(row[k]))[0] for k in "ned"]
-    library.farnkuppel_fix(state, STATE, ctypes.c_uint32(int(row["named"])), *map(ctypes.c_float, place), answer, 8, command, 6)
+    named = ctypes.c_uint32(int(row["named"]))
+    library.farnkuppel_fix(state, STATE, named, *map(ctypes.c_float, place), answer, ANSWER, command, COMMAND)
     a = list(answer)
     numbers = [struct.pack("<f", x)[::-1].hex().upper() for x in command]
     return [a[0], a[1], a[2], *numbers, a[3], *a[4:]], list(state)
@@ -55,8 +60,8 @@ def wanted(row):
 
 def wrote(library, row, words):
     room = int(row["w_buffer"])
-    state, answer, file = (ctypes.c_int32 * STATE)(*words), (ctypes.c_uint32 * 3)(), (ctypes.c_uint8 * max(room, 1))()
-    library.farnkuppel_write(state, STATE, ctypes.c_uint32(int(row["w_version"])), file, ctypes.c_size_t(room), answer, 3)
+    state, answer, file = (ctypes.c_int32 * STATE)(*words), (ctypes.c_uint32 * WRITTEN)(), (ctypes.c_uint8 * max(room, 1))()
+    library.farnkuppel_write(state, STATE, ctypes.c_uint32(int(row["w_version"])), file, ctypes.c_size_t(room), answer, WRITTEN)
     return list(answer)
 
 

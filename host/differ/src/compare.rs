@@ -177,7 +177,8 @@ impl Tally {
             && room == [BYTE_PATTERN; 1200];
         if results != [MISFIT; 9] || !untouched {
             let (file, held) = (hex_of_bytes(file), hex_of_words(state));
-            self.disagree(case, format!("short by {cut} results {results:?} untouched {untouched} file {file} state {held}"));
+            let seen = format!("short by {cut} results {results:?} untouched {untouched}");
+            self.disagree(case, format!("{seen} file {file} state {held}"));
         }
     }
 }

@@ -3,6 +3,7 @@
 use crate::chance::Chance;
 use crate::plans::{random_plan, Plan};
 use reference::file::{needed_version, COURSE, HEADER, LARGEST_AREA, MARK, NOTE, POINT, RADIUS, SPEED};
+use reference::state::PLACES;
 use reference::{load, State};
 
 #[derive(Clone)]
@@ -232,7 +233,7 @@ fn drop_kind(c: &mut Chance, draft: &mut Draft) {
 
 /// Cuts or fills the plan to a number of points near a limit.
 fn set_count(c: &mut Chance, draft: &mut Draft) {
-    let wanted = c.pick(&[2, 3, 64, 65, 66, 67]);
+    let wanted = c.pick(&[2, 3, PLACES, PLACES + 1, PLACES + 2, PLACES + 3]);
     let is_point = |record: &Record| record.kind == POINT;
     while draft.records.iter().filter(|record| is_point(record)).count() > wanted {
         let last = draft.records.iter().rposition(is_point).expect("there is a point");

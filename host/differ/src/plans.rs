@@ -1,6 +1,7 @@
 //! Random plans, mostly valid or just on one side of a limit.
 
 use crate::chance::Chance;
+use reference::state::PLACES;
 use reference::{course, dubins, fillets, Mode, State};
 use std::f64::consts::TAU;
 
@@ -25,8 +26,8 @@ pub fn random_plan(c: &mut Chance) -> Plan {
 
 fn random_count(c: &mut Chance) -> usize {
     match c.below(40) {
-        0 => 64,
-        1 => 63,
+        0 => PLACES,
+        1 => PLACES - 1,
         2..=6 => c.between(9, 40) as usize,
         _ => c.between(3, 8) as usize,
     }

@@ -4,6 +4,7 @@ use crate::chance::Chance;
 use reference::course::{direction, off, plus, Level};
 use reference::{dubins, fillets, Mode, State};
 
+#[rustfmt::skip] // a line for each sort
 const ODD: [u32; 22] = [
     0x7FC0_0000, 0xFFC0_0001, 0x7F80_0001, 0x7F80_0000, 0xFF80_0000, // NaN and infinite
     0x4743_5000, 0xC743_5000, 0x4743_5001, 0xC743_5001, 0x4743_4FFF, // about 50,000
@@ -47,7 +48,7 @@ fn random_float(c: &mut Chance) -> f32 {
     if c.one_in(2) {
         f32::from_bits(bits)
     } else {
-        f32::from_bits(bits % 0x4743_5010 | bits & 0x8000_0000)
+        f32::from_bits((bits % 0x4743_5010) | (bits & 0x8000_0000))
     }
 }
 
@@ -79,7 +80,11 @@ fn about_the_circle(c: &mut Chance, state: &State) -> [f32; 3] {
         fillets::fillet_at(state, i).centre
     } else {
         let path = dubins::shortest(state, i).expect("a loaded plan has a case for every leg");
-        if state.phase <= 3 { path.start_centre } else { path.end_centre }
+        if state.phase <= 3 {
+            path.start_centre
+        } else {
+            path.end_centre
+        }
     };
     let arm = c.pick(&[0, 0, 1, i64::from(state.radius)]);
     let (n, e) = plus(centre, off(arm, c.between(0, 4095)));

@@ -8,9 +8,8 @@ use compiled::words::{self, Words, COUNT, COURSES, DOWNS, EASTS, FINISHED, INDEX
 use reference::state::PLACES;
 use reference::{file, State};
 
-const ODD_VERSIONS: [u32; 16] = [
-    0, 4, 5, 7, 255, 256, 257, 258, 259, 65_535, 65_537, 65_538, 65_539, 0x8000_0001, 0xFFFF_FFFE, u32::MAX,
-];
+const ODD_VERSIONS: [u32; 16] =
+    [0, 4, 5, 7, 255, 256, 257, 258, 259, 65_535, 65_537, 65_538, 65_539, 0x8000_0001, 0xFFFF_FFFE, u32::MAX];
 
 fn random_version(c: &mut Chance) -> u32 {
     match c.below(12) {
@@ -90,6 +89,7 @@ fn block_place(c: &mut Chance, count: i32) -> usize {
 }
 
 fn random_word(c: &mut Chance, was: i32) -> i32 {
+    #[rustfmt::skip] // not a line for each
     const EDGES: [i32; 26] = [
         0, 1, 2, 3, 4, 5, 6, 49, 50, 63, 64, 65, 255, 256, 4095, 4096, 10_000, 10_001, 65_535, 65_536, 100_000, 100_001, 500_000,
         500_001, i32::MAX, i32::MIN,

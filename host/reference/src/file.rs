@@ -1,8 +1,8 @@
 //! Plan files: reading, writing, notes.
 
+use crate::refusal::Refusal;
 use crate::rules::{self, check_plan};
 use crate::state::{Mode, State, PLACES};
-use crate::Refusal;
 use std::ops::{Range, RangeInclusive};
 
 pub const HEADER: usize = 11;

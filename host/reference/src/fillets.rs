@@ -37,22 +37,14 @@ pub fn fillet_at(state: &State, i: usize) -> Fillet {
 #[cfg(test)]
 mod tests {
     use super::*;
-    use crate::rules::check_plan;
     use crate::state::Mode;
-    use crate::Refusal;
-
-    fn corner(radius: u32) -> State {
-        let mut state = State { serial: 1, mode: Mode::Fillets, radius, count: 3, index: 2, phase: 1, ..State::EMPTY };
-        state.points[1] = [1000, 0, 0];
-        state.points[2] = [1000, 1000, 0];
-        state
-    }
 
     #[test]
     fn fillet_of_the_document() {
-        let fillet = fillet_at(&corner(200), 2);
+        let mut corner = State { mode: Mode::Fillets, radius: 200, count: 3, ..State::EMPTY };
+        corner.points[1] = [1000, 0, 0];
+        corner.points[2] = [1000, 1000, 0];
+        let fillet = fillet_at(&corner, 2);
         assert_eq!((fillet.centre, fillet.z2, fillet.sense), ((800, 200), (1000, 200), 1));
-        assert_eq!(check_plan(&corner(1000)), Ok(()));
-        assert_eq!(check_plan(&corner(1001)), Err(Refusal::at(12, 2)));
     }
 }

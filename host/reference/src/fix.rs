@@ -2,8 +2,9 @@
 
 use crate::course::{direction, dot, less, Level, SCALE};
 use crate::heading::{circle_heading, line_heading};
+use crate::refusal::Refusal;
 use crate::state::{Mode, State};
-use crate::{dubins, fillets, lines, Refusal};
+use crate::{dubins, fillets, lines};
 
 #[derive(Clone, Copy, Debug, PartialEq)]
 pub enum Command {
@@ -157,8 +158,8 @@ pub fn position(fix: [f32; 3]) -> Option<[i64; 3]> {
     let mut p = [0; 3];
     for k in 0..3 {
         let exact = f64::from(fix[k]);
-        // NaN fails this too.
-        if !(exact.abs() <= REACH[k]) {
+        // NaN is in no range.
+        if !(-REACH[k]..=REACH[k]).contains(&exact) {
             return None;
         }
         // A 24-bit number times ten is exact in f64, and round takes halves away from zero.
@@ -184,7 +185,8 @@ mod tests {
     fn fixes_of_the_document() {
         assert_eq!(position([0.25, -0.25, 0.04]), Some([3, -3, 0]));
         assert_eq!(position([50_000.0, -50_000.0, 10_000.0]), Some([500_000, -500_000, 100_000]));
-        assert_eq!(position([50_000.003_906_25, 0.0, 0.0]), None);
+        let next_above_50_000 = f32::from_bits(50_000_f32.to_bits() + 1);
+        assert_eq!(position([next_above_50_000, 0.0, 0.0]), None);
         assert_eq!(position([0.0, f32::NAN, 0.0]), None);
         assert_eq!(position([0.0, 0.0, f32::NEG_INFINITY]), None);
     }
@@ -315,7 +317,8 @@ mod tests {
     fn a_fix_at_a_place_that_the_mode_lacks_is_refused() {
         for mode in [Mode::Lines, Mode::Fillets, Mode::Dubins] {
             let allowed = allowed_places(mode);
-            for place in (0..6).flat_map(|index| (0..8).flat_map(move |phase| [(index, phase, false), (index, phase, true)])) {
+            let phases = |index| (0..8).flat_map(move |phase| [(index, phase, false), (index, phase, true)]);
+            for place in (0..6).flat_map(phases) {
                 let given = State { finished: place.2, ..corner(mode, place.0, place.1) };
                 let mut state = given;
                 let refusal = (!allowed.contains(&place)).then_some(Refusal::plain(14));

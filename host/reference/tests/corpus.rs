@@ -1,4 +1,4 @@
-//! The expected answers of a corpus folder, named by the environment variable CORPUS; skipped where that is unset.
+//! The expected answers of a corpus folder, named by the environment variable CORPUS; skipped where that is unset or empty.
 //!
 //! Its folder requests/04 decides the last leg of lines and fillets, and the folder itself all else.
 
@@ -10,14 +10,13 @@ use std::path::{Path, PathBuf};
 type Row = BTreeMap<String, String>;
 
 /// The columns of a fix's answer.
-const ANSWER: [&str; 14] = [
-    "refusal", "place", "kind", "c1", "c2", "c3", "c4", "c5", "c6", "sense", "heading", "index", "phase", "finished",
-];
+const ANSWER: [&str; 14] =
+    ["refusal", "place", "kind", "c1", "c2", "c3", "c4", "c5", "c6", "sense", "heading", "index", "phase", "finished"];
 
 fn corpus() -> Option<PathBuf> {
-    let folder = std::env::var_os("CORPUS").map(PathBuf::from);
+    let folder = std::env::var_os("CORPUS").filter(|name| !name.is_empty()).map(PathBuf::from);
     if folder.is_none() {
-        eprintln!("CORPUS is unset: skipped");
+        eprintln!("CORPUS names none: skipped");
     }
     folder
 }
@@ -147,7 +146,8 @@ fn listed(text: &str) -> impl Iterator<Item = &str> {
 
 fn state_of(row: &Row) -> State {
     let number = |name: &str| whole(&row[name]);
-    let mut state = State { serial: number("serial"), radius: number("radius"), count: number("count"), ..State::EMPTY };
+    let mut state =
+        State { serial: number("serial"), radius: number("radius"), count: number("count"), ..State::EMPTY };
     state.mode = [Mode::Lines, Mode::Fillets, Mode::Dubins][number("mode") as usize];
     for (place, text) in listed(&row["points"]).enumerate() {
         let parts: Vec<i32> = text.split(',').map(|t| t.parse().unwrap()).collect();

@@ -4,12 +4,13 @@ mod plans;
 mod timing;
 
 use plans::{plan, simulated};
+use reference::state::PLACES;
 use reference::{write, Mode};
 use std::process::ExitCode;
 use timing::{fixes, loads, Times};
 
 const MODES: [(Mode, &str); 3] = [(Mode::Lines, "lines"), (Mode::Fillets, "fillets"), (Mode::Dubins, "dubins")];
-const COUNTS: [usize; 3] = [3, 16, 64];
+const COUNTS: [usize; 3] = [3, 16, PLACES];
 
 fn row(name: &str, count: usize, what: &str, times: Times) {
     let Times { compiled, words, native } = times;
@@ -18,11 +19,11 @@ fn row(name: &str, count: usize, what: &str, times: Times) {
 }
 
 fn main() -> ExitCode {
-    let given: Vec<u64> = std::env::args().skip(1).filter_map(|text| text.parse().ok()).collect();
-    let (fix_count, load_count) = match given[..] {
-        [] => (1_000_000, 100_000),
-        [fixes] => (fixes, 100_000),
-        [fixes, loads] => (fixes, loads),
+    let given: Result<Vec<u64>, _> = std::env::args().skip(1).map(|text| text.parse()).collect();
+    let (fix_count, load_count) = match given.as_deref() {
+        Ok([]) => (1_000_000, 100_000),
+        Ok([fixes]) => (*fixes, 100_000),
+        Ok([fixes, loads]) => (*fixes, *loads),
         _ => {
             eprintln!("usage: speed [FIXES [LOADS]]");
             return ExitCode::from(2);

@@ -24,7 +24,7 @@ fn turned(along: f64, across: f64) -> [i32; 3] {
 pub fn plan(mode: Mode, count: usize) -> State {
     let mut state = State { serial: 7, mode, count: count as u32, index: 2, phase: 1, ..State::EMPTY };
     for i in 0..count {
-        let far = (i + 1) / 2 % 2 == 1;
+        let far = i.div_ceil(2) % 2 == 1;
         state.points[i] = turned(if far { STRIP } else { 0.0 }, APART * (i / 2) as f64);
         if mode == Mode::Dubins {
             state.courses[i] = (ALONG as u32 + if i / 2 % 2 == 1 { 2048 } else { 0 }) % 4096;
