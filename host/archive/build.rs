@@ -77,30 +77,37 @@ fn written(header: &str) -> String {
     release + &refusals + &module("number", "u32", &numbers) + &module("size", "usize", &numbers)
 }
 
+/// Has an archive linked, from the folder that it stands in.
+fn link(folder: &str, name: &str) {
+    println!("cargo:rustc-link-search=native={folder}");
+    println!("cargo:rustc-link-lib=static={name}");
+}
+
+/// Sees to it that an archive is there, and that it is linked again when it changes.
+fn expect(archive: &str) {
+    assert!(Path::new(archive).is_file(), "{archive} is missing: tools/archives makes it");
+    println!("cargo:rerun-if-changed={archive}");
+}
+
 /// Links both archives, the desk's by a copy.
-fn link(archives: &str, out: &str) {
-    for name in ["autopilot", "desk"] {
-        let archive = format!("{archives}/lib{name}.a");
-        assert!(Path::new(&archive).is_file(), "{archive} is missing: tools/archives makes it");
-        println!("cargo:rerun-if-changed={archive}");
-    }
+fn link_both(archives: &str, out: &str) {
+    let (autopilot, desk) = (format!("{archives}/libautopilot.a"), format!("{archives}/libdesk.a"));
+    expect(&autopilot);
+    expect(&desk);
     let renamed = Command::new("objcopy")
         .args(["--redefine-sym", "farnkuppel_interface=farnkuppel_desk_interface"])
-        .args([format!("{archives}/libdesk.a"), format!("{out}/libdesk_renamed.a")])
+        .args([desk, format!("{out}/libdesk_renamed.a")])
         .status();
     assert!(renamed.expect("objcopy is there").success(), "objcopy renames a function of libdesk.a");
-    println!("cargo:rustc-link-search=native={archives}");
-    println!("cargo:rustc-link-search=native={out}");
-    for name in ["autopilot", "desk_renamed"] {
-        println!("cargo:rustc-link-lib=static={name}");
-    }
+    link(archives, "autopilot");
+    link(out, "desk_renamed");
 }
 
 fn main() {
     let here = env::var("CARGO_MANIFEST_DIR").expect("cargo names the crate's folder");
     let out = env::var("OUT_DIR").expect("cargo names a folder for what is built");
     println!("cargo:rerun-if-changed=build.rs");
-    link(&format!("{here}/../../target/staticlib"), &out);
+    link_both(&format!("{here}/../../target/staticlib"), &out);
     let name = format!("{here}/../../include/farnkuppel.h");
     println!("cargo:rerun-if-changed={name}");
     let header = fs::read_to_string(&name).expect("the header can be read");

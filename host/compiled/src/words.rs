@@ -14,27 +14,52 @@ pub use archive::size::{
 
 pub type Words = archive::State;
 
-pub fn of_state(state: &State) -> Words {
-    let mut words = [0; STATE_WORDS];
-    let mode = match state.mode {
+fn mode_word(mode: Mode) -> u32 {
+    match mode {
         Mode::Lines => number::MODE_LINES,
         Mode::Fillets => number::MODE_FILLETS,
         Mode::Dubins => number::MODE_DUBINS,
-    };
-    let plan = [(SERIAL, state.serial), (MODE, mode), (RADIUS, state.radius), (COUNT, state.count)];
-    let progress = [(INDEX, state.index), (PHASE, state.phase), (FINISHED, u32::from(state.finished))];
-    for (place, number) in plan.into_iter().chain(progress) {
+    }
+}
+
+/// Puts numbers into the words from a place on.
+fn put(words: &mut Words, from: usize, numbers: impl Iterator<Item = i32>) {
+    for (word, number) in words[from..].iter_mut().zip(numbers) {
+        *word = number;
+    }
+}
+
+pub fn of_state(state: &State) -> Words {
+    let mut words = [0; STATE_WORDS];
+    for (place, number) in [
+        (SERIAL, state.serial),
+        (MODE, mode_word(state.mode)),
+        (RADIUS, state.radius),
+        (COUNT, state.count),
+        (INDEX, state.index),
+        (PHASE, state.phase),
+        (FINISHED, u32::from(state.finished)),
+    ] {
         words[place] = number as i32;
     }
-    for (part, block) in [NORTHS..EASTS, EASTS..DOWNS, DOWNS..COURSES].into_iter().enumerate() {
-        for (word, point) in words[block].iter_mut().zip(&state.points) {
-            *word = point[part];
-        }
-    }
-    for (word, course) in words[COURSES..].iter_mut().zip(&state.courses) {
-        *word = *course as i32;
-    }
+    put(&mut words, NORTHS, state.points.iter().map(|point| point[0]));
+    put(&mut words, EASTS, state.points.iter().map(|point| point[1]));
+    put(&mut words, DOWNS, state.points.iter().map(|point| point[2]));
+    put(&mut words, COURSES, state.courses.iter().map(|course| *course as i32));
     words
+}
+
+fn take_points(words: &Words, state: &mut State) {
+    let (norths, easts, downs) = (&words[NORTHS..], &words[EASTS..], &words[DOWNS..]);
+    for (point, ((north, east), down)) in state.points.iter_mut().zip(norths.iter().zip(easts).zip(downs)) {
+        *point = [*north, *east, *down];
+    }
+}
+
+fn take_courses(words: &Words, state: &mut State) {
+    for (course, word) in state.courses.iter_mut().zip(&words[COURSES..]) {
+        *course = *word as u32;
+    }
 }
 
 /// The state that words hold, or none where the mode, the radius, the phase or the finished word is no such thing.
@@ -53,13 +78,8 @@ pub fn to_state(words: &Words) -> Option<State> {
     let mut state = State { serial: words[SERIAL] as u32, mode, count: words[COUNT] as u32, ..State::EMPTY };
     (state.radius, state.index, state.phase) = (u32::from(radius), words[INDEX] as u32, u32::from(phase));
     state.finished = words[FINISHED] == 1;
-    let blocks = words[NORTHS..EASTS].iter().zip(&words[EASTS..DOWNS]).zip(&words[DOWNS..COURSES]);
-    for (point, ((north, east), down)) in state.points.iter_mut().zip(blocks) {
-        *point = [*north, *east, *down];
-    }
-    for (course, word) in state.courses.iter_mut().zip(&words[COURSES..]) {
-        *course = *word as u32;
-    }
+    take_points(words, &mut state);
+    take_courses(words, &mut state);
     Some(state)
 }
 

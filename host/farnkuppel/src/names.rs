@@ -17,16 +17,19 @@ pub fn note(bytes: &[u8]) -> String {
     bytes.iter().map(shown).collect()
 }
 
+/// A letter as it is, a control character by its bytes.
+fn letter(of: char) -> String {
+    match of.is_control() {
+        true => of.to_string().bytes().map(escaped).collect(),
+        false => of.to_string(),
+    }
+}
+
 /// Any bytes as they are, but for control characters and bytes that are no UTF-8.
 fn line(bytes: &OsStr) -> String {
     let mut shown = String::new();
     for part in bytes.as_encoded_bytes().utf8_chunks() {
-        for letter in part.valid().chars() {
-            match letter.is_control() {
-                true => shown.extend(letter.to_string().bytes().map(escaped)),
-                false => shown.push(letter),
-            }
-        }
+        shown.extend(part.valid().chars().map(letter));
         shown.extend(part.invalid().iter().map(|byte| escaped(*byte)));
     }
     shown

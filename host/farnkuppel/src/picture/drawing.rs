@@ -65,22 +65,26 @@ fn track(frame: &Frame, mode: Mode, steps: &[Step]) -> String {
     format!("<g class=\"track\">\n{paths}</g>\n")
 }
 
-/// The grid's lines and numbers.
+/// A line of the grid, as the data of a path, and the number beside it.
+type Grid = (String, String);
+
+fn east_line(frame: &Frame, east: f64) -> Grid {
+    let x = frame.x(east);
+    let at = format!("text-anchor=\"middle\" x=\"{x:.1}\" y=\"{:.1}\"", frame.bottom + 14.0);
+    (format!("M{x:.1} {TOP}V{}", frame.bottom), format!("<text class=\"small\" {at}>{east:.0}</text>\n"))
+}
+
+fn north_line(frame: &Frame, north: f64) -> Grid {
+    let y = frame.y(north);
+    let at = format!("text-anchor=\"end\" x=\"{:.1}\" y=\"{:.1}\"", LEFT - 6.0, y + 3.5);
+    (format!("M{LEFT} {y:.1}H{}", frame.right), format!("<text class=\"small\" {at}>{north:.0}</text>\n"))
+}
+
 fn grid(frame: &Frame) -> String {
     let step = frame.round_step(45.0);
-    let (mut data, mut numbers) = (String::new(), String::new());
-    for east in frame.grid_easts(step) {
-        let x = frame.x(east);
-        data += &format!("M{x:.1} {TOP}V{}", frame.bottom);
-        let at = format!("text-anchor=\"middle\" x=\"{x:.1}\" y=\"{:.1}\"", frame.bottom + 14.0);
-        numbers += &format!("<text class=\"small\" {at}>{east:.0}</text>\n");
-    }
-    for north in frame.grid_norths(step) {
-        let y = frame.y(north);
-        data += &format!("M{LEFT} {y:.1}H{}", frame.right);
-        let at = format!("text-anchor=\"end\" x=\"{:.1}\" y=\"{:.1}\"", LEFT - 6.0, y + 3.5);
-        numbers += &format!("<text class=\"small\" {at}>{north:.0}</text>\n");
-    }
+    let easts = frame.grid_easts(step).into_iter().map(|east| east_line(frame, east));
+    let norths = frame.grid_norths(step).into_iter().map(|north| north_line(frame, north));
+    let (data, numbers): (String, String) = easts.chain(norths).unzip();
     format!("<path class=\"grid\" d=\"{data}\"/>\n{numbers}")
 }
 
