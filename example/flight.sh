@@ -1,31 +1,57 @@
 #!/usr/bin/env bash
-# The main job on one plan file: lists it, flies a simulated aircraft along it and draws the flight.
-#   example/flight.sh [PLAN [PICTURE]]    default: samples/fillets.wpl, target/flight.svg
-# Needs the Rattle toolchain (rt) and cargo. The first run proves the crates that it uses.
+# Lists a plan, flies a simulated aircraft along it to its end, and draws the flight.
+#   example/flight.sh [PLAN [PICTURE]]    without them samples/fillets.wpl and target/flight.svg
+# The first run proves the crates that it needs and builds the command farnkuppel; later ones take about a second. Needs the Rattle toolchain (rt)
+# and cargo. Exit status: 0 drawn; 1 the plan is refused, or a crate is not proved; 2 usage or file trouble.
 set -euo pipefail
 root=$(cd "$(dirname "$0")/.." && pwd)
-plan=$(realpath "${1:-$root/samples/fillets.wpl}")
-picture=$(realpath -m "${2:-$root/target/flight.svg}")
-cd "$root"
 
-mkdir -p target
-log=target/flight.log
-{
-    rt check listing fly
-    rt staticlib autopilot
-    (cd host && cargo build --offline --release --quiet -p picture)
-} > "$log" 2>&1 || { tail -n 20 "$log" >&2; exit 1; }
+stop() {
+    echo "flight.sh: $1" >&2
+    exit 2
+}
 
-made=$(mktemp -d)
-trap 'rm -rf "$made"' EXIT
-target/bin/listing < "$plan" | tee "$made/listing"
-if grep -q '^refused' "$made/listing"; then exit 1; fi
-host/target/release/simulate "$plan" > "$made/fixes"
-target/bin/fly 3 "$plan" "$made/fixes" > "$made/flown"
-echo "the first and the last of $(wc -l < "$made/flown") answers:"
-head -n 3 "$made/flown"
+case ${1-} in
+    -h | --help) sed -n '2,/^[^#]/s/^# \{0,1\}//p' "$0"; exit 0 ;;
+    -*) stop "no option '$1'; usage: example/flight.sh [PLAN [PICTURE]]" ;;
+esac
+[ $# -le 2 ] || stop "'$3' is one too many; usage: example/flight.sh [PLAN [PICTURE]]"
+at=$root/
+if [ "$PWD" -ef "$root" ]; then at=; fi
+plan=${1-${at}samples/fillets.wpl}
+picture=${2-${at}target/flight.svg}
+[ -e "$plan" ] || stop "$plan: there is no such file"
+[ ! -d "$plan" ] || stop "$plan: is a directory, and no plan"
+[ -r "$plan" ] || stop "$plan: cannot be read"
+mkdir -p "$root/target"
+[ -n "$picture" ] || stop "'' names no picture"
+[ ! -d "$picture" ] || stop "$picture: is a directory, and no picture"
+[ ! -e "$picture" ] || [ -f "$picture" ] || stop "$picture: is no regular file"
+folder=$(dirname -- "$picture")
+[ -d "$folder" ] || stop "$picture: its folder is not there"
+[ -w "$folder" ] || stop "$picture: its folder cannot be written to"
+[ ! "$picture" -ef "$plan" ] || stop "$picture: is the plan, and is not written over"
+for tool in rt cargo objcopy; do
+    command -v "$tool" > /dev/null || stop "$tool is not installed"
+done
+
+farnkuppel=$root/host/target/release/farnkuppel
+if [ -x "$farnkuppel" ]; then
+    echo "flight.sh: a second, and more where something has changed since the last run"
+else
+    echo "flight.sh: the first run proves and builds what it needs, about six minutes on two cores; later ones take a second"
+fi
+"$root/tools/archives"
+[ -x "$farnkuppel" ] || echo "flight.sh: building the command farnkuppel, some seconds"
+cargo build --manifest-path "$root/host/Cargo.toml" --offline --release --quiet -p farnkuppel
+
+"$farnkuppel" list -- "$plan"
+fixes=${at}target/flight.fixes
+flown=${at}target/flight.txt
+"$farnkuppel" simulate -- "$plan" "$fixes"
+"$farnkuppel" fly -- "$plan" "$fixes" > "$flown"
+head -n 4 "$flown"
 echo ...
-tail -n 3 "$made/flown"
-host/target/release/picture "$made/listing" "$made/flown" "$made/fixes" > "$made/svg"
-cp "$made/svg" "$picture"
-echo "drawn: $picture"
+tail -n 2 "$flown"
+"$farnkuppel" draw -- "$plan" "$fixes" "$picture"
+echo "the command is ${at}host/target/release/farnkuppel; its --help says what else it does"

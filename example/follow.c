@@ -47,46 +47,67 @@ static void move(struct aircraft *plane, uint32_t wanted)
     plane->east += SPEED / FIXES_A_SECOND * sin(plane->heading);
 }
 
-/* Over the first point, heading for the second. Points stand in the state's words in decimetres. */
+/* Over the first point, heading for the second. */
 static struct aircraft over_first_point(const int32_t *state)
 {
-    const int32_t *norths = state + FARNKUPPEL_STATE_NORTHS, *easts = state + FARNKUPPEL_STATE_EASTS;
-    struct aircraft plane = {norths[0] / 10.0, easts[0] / 10.0, state[FARNKUPPEL_STATE_DOWNS] / 10.0, 0};
-    plane.heading = atan2(easts[1] - easts[0], norths[1] - norths[0]);
+    struct farnkuppel_decimetres first = farnkuppel_point_of(state, FARNKUPPEL_STATE_WORDS, 1);
+    struct farnkuppel_decimetres second = farnkuppel_point_of(state, FARNKUPPEL_STATE_WORDS, 2);
+    struct aircraft plane = {first.north / 10.0, first.east / 10.0, first.down / 10.0, 0};
+    plane.heading = atan2(second.east - first.east, second.north - first.north);
     return plane;
 }
 
-static void show(unsigned seconds, const struct aircraft *plane, const uint32_t *answer)
+static void show(unsigned seconds, const struct aircraft *plane, const struct farnkuppel_answer *answer)
 {
     double degrees = fmod(plane->heading * 360 / circle + 720, 360);
     printf("%u %.1f %.1f %.1f %.0f index %" PRIu32 " phase %" PRIu32 "\n", seconds, plane->north, plane->east, plane->down, degrees,
-           answer[FARNKUPPEL_ANSWER_INDEX], answer[FARNKUPPEL_ANSWER_PHASE]);
+           answer->index, answer->phase);
+}
+
+/* One fix where the aircraft is. Its command, a line or a circle, is for autopilots that steer by one (farnkuppel_command_of); this one steers by
+ * the heading. */
+static struct farnkuppel_answer fix(int32_t *state, const struct aircraft *plane)
+{
+    uint32_t serial = farnkuppel_head_of(state, FARNKUPPEL_STATE_WORDS).serial;
+    uint32_t answer[FARNKUPPEL_ANSWER_WORDS];
+    float command[FARNKUPPEL_COMMAND_NUMBERS];
+    farnkuppel_fix(state, FARNKUPPEL_STATE_WORDS, serial, (float)plane->north, (float)plane->east, (float)plane->down, answer,
+                   FARNKUPPEL_ANSWER_WORDS, command, FARNKUPPEL_COMMAND_NUMBERS);
+    return farnkuppel_answer_of(answer, FARNKUPPEL_ANSWER_WORDS);
 }
 
 /* Until the manager says finished, or refuses. */
 static int follow(int32_t *state)
 {
     struct aircraft plane = over_first_point(state);
-    uint32_t serial = (uint32_t)state[FARNKUPPEL_STATE_SERIAL];
-    uint32_t answer[FARNKUPPEL_ANSWER_WORDS] = {0};
-    float command[FARNKUPPEL_COMMAND_NUMBERS];
+    struct farnkuppel_answer answer = {0, 0, 0, 0, 0};
 
-    for (unsigned fix = 0; fix < MOST_SECONDS * FIXES_A_SECOND; fix++) {
-        uint32_t refusal = farnkuppel_fix(state, FARNKUPPEL_STATE_WORDS, serial, (float)plane.north, (float)plane.east, (float)plane.down,
-                                          answer, FARNKUPPEL_ANSWER_WORDS, command, FARNKUPPEL_COMMAND_NUMBERS);
-        if (refusal) {
-            printf("fix refused %" PRIu32 "\n", refusal);
+    for (unsigned fixes = 0; fixes < MOST_SECONDS * FIXES_A_SECOND; fixes++) {
+        answer = fix(state, &plane);
+        if (answer.refusal) {
+            printf("fix refused %" PRIu32 ": %s\n", answer.refusal, farnkuppel_refusal_name(answer.refusal));
             return 1;
         }
-        if (fix % FIXES_A_SECOND == 0)
-            show(fix / FIXES_A_SECOND, &plane, answer);
-        if (answer[FARNKUPPEL_ANSWER_FINISHED])
+        if (fixes % FIXES_A_SECOND == 0)
+            show(fixes / FIXES_A_SECOND, &plane, &answer);
+        if (answer.finished)
             break;
-        move(&plane, answer[FARNKUPPEL_ANSWER_HEADING]);
+        move(&plane, answer.heading);
     }
-    printf("finished %" PRIu32 " index %" PRIu32 " phase %" PRIu32 "\n", answer[FARNKUPPEL_ANSWER_FINISHED], answer[FARNKUPPEL_ANSWER_INDEX],
-           answer[FARNKUPPEL_ANSWER_PHASE]);
-    return answer[FARNKUPPEL_ANSWER_FINISHED] ? 0 : 1;
+    printf("finished %" PRIu32 " index %" PRIu32 " phase %" PRIu32 "\n", answer.finished, answer.index, answer.phase);
+    return answer.finished ? 0 : 1;
+}
+
+/* The bytes of a file, and how many; -1 where it cannot be read. */
+static long read_file(const char *name, uint8_t *bytes, size_t room)
+{
+    FILE *plan = fopen(name, "rb");
+    if (!plan)
+        return -1;
+    size_t length = fread(bytes, 1, room, plan);
+    int failed = ferror(plan);
+    fclose(plan);
+    return failed ? -1 : (long)length;
 }
 
 int main(int count, char **words)
@@ -99,16 +120,15 @@ int main(int count, char **words)
         fprintf(stderr, "follow: the archive has another interface than its header\n");
         return 2;
     }
-    FILE *plan = count == 2 ? fopen(words[1], "rb") : NULL;
-    if (!plan) {
+    long length = count == 2 ? read_file(words[1], file, sizeof file) : -1;
+    if (length < 0) {
         fprintf(stderr, count == 2 ? "follow: cannot read the plan\n" : "usage: follow PLAN\n");
         return 2;
     }
-    size_t length = fread(file, 1, sizeof file, plan);
-    fclose(plan);
-
-    if (farnkuppel_load(file, length, FARNKUPPEL_NEWEST, state, FARNKUPPEL_STATE_WORDS, answer, FARNKUPPEL_LOAD_WORDS)) {
-        printf("refused %" PRIu32 " at %" PRIu32 "\n", answer[FARNKUPPEL_LOAD_REFUSAL], answer[FARNKUPPEL_LOAD_PLACE]);
+    uint32_t refusal =
+        farnkuppel_load(file, (size_t)length, FARNKUPPEL_NEWEST, state, FARNKUPPEL_STATE_WORDS, answer, FARNKUPPEL_LOAD_WORDS);
+    if (refusal) {
+        printf("refused %" PRIu32 " at %" PRIu32 ": %s\n", refusal, answer[FARNKUPPEL_LOAD_PLACE], farnkuppel_refusal_name(refusal));
         return 1;
     }
     return follow(state);

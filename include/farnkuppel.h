@@ -5,9 +5,9 @@
  *
  * Both are for x86-64 under Linux, by the System V calling convention. They need memset, as the C library has it, and no other symbol.
  *
- * Every function answers a refusal number, 0 for none, whatever it is given; farnkuppel_interface alone answers something else. It reads and
- * writes the memory that it is lent, up to the lengths that it is told, and no other; it keeps nothing between calls and uses no heap. What each
- * one writes is said below and is proved.
+ * Every function of theirs answers a refusal number, 0 for none, whatever it is given; farnkuppel_interface alone answers something else. It
+ * reads and writes the memory that it is lent, up to the lengths that it is told, and no other; it keeps nothing between calls and uses no heap.
+ * What each one writes is said below and is proved. What is `static inline` here is plain C that reads words: it is tested, not proved.
  *
  * Memory is lent as a slice, by two arguments: a pointer, and the number of its elements (not of bytes) as a size_t. A state, an answer, a
  * command or a note's buffer that is shorter than it has to be is refused FARNKUPPEL_REFUSED_MISFIT before anything else is looked at, and then
@@ -23,6 +23,10 @@
 #ifdef __cplusplus
 extern "C" {
 #endif
+
+/* The release of the whole, archives, programs and pages: the only place of its number. CHANGELOG.md says what the three numbers mean and what each
+ * release brought. The number of the interface is another thing, and most releases keep it. */
+#define FARNKUPPEL_RELEASE "2.1.0"
 
 /* The number of this interface. It grows whenever a word moves or a function changes; the first interface had none. An archive answers its own by
  * farnkuppel_interface: where that is another number, nothing below holds of the archive. */
@@ -67,51 +71,74 @@ extern "C" {
 
 /* ---- refusals */
 
-/* Refusal numbers, and the place that the answer has with each: 0 where none is named. The first that applies is given. A load looks at the
- * reader's version, then in the order of the numbers, at the records one after the other for 6 and 7 and at the legs for 12 and 17; what is said
- * of a load holds of farnkuppel_check too, and of farnkuppel_refusal, which has no place. A fix looks for 14, 15, 13, a write for 14, 3, 7, 16. */
+/* A row for each refusal: its number, its name and the same in words; above the row when it is given, and the place that the answer has with it,
+ * 0 where none is named. The first that applies is given. A load looks at the reader's version, then in the order of the numbers, at the records
+ * one after the other for 6 and 7 and at the legs for 12 and 17; what is said of a load holds of farnkuppel_check too, and of farnkuppel_refusal,
+ * which has no place. A fix looks for 14, 15, 13, a write for 14, 3, 7, 16. */
+#define FARNKUPPEL_REFUSALS(ROW) \
+    /* A load: the file has under 11 bytes. */ \
+    ROW(1, FILE_TOO_SHORT, "file shorter than its header") \
+    /* A load: the file does not begin with WPL. */ \
+    ROW(2, NO_MARK, "file does not begin with WPL") \
+    /* A load: the reader's version is none of 1 to 3, or the file's is 0. A write: the version is none of 1 to 3. */ \
+    ROW(3, NO_VERSION, "no such version") \
+    /* A load: the file's serial is 0. */ \
+    ROW(4, NO_SERIAL, "serial is 0") \
+    /* A load: the area length is not the number of bytes behind the header, or over 8,192. */ \
+    ROW(5, WRONG_AREA, "wrong length of the record area") \
+    /* A load: a record is cut short; has a wrong length, value or position for its kind; is newer than the file's version; or is of a kind that \
+     * the reader does not know, in a file that is not newer than the reader. Place: the record's offset in the file. */ \
+    ROW(6, WRONG_RECORD, "record wrong or cut short") \
+    /* A load: a record that the reader does not know and may not leave out, in a newer file. Place: the record's offset in the file. \
+     * A write: the plan needs a higher version. Place: 0. */ \
+    ROW(7, TOO_NEW, "plan needs a higher version") \
+    /* A load: under 3 points, or over 64. */ \
+    ROW(8, POINT_COUNT, "too few or too many points") \
+    /* A load: a course without a radius, or courses at some points only. */ \
+    ROW(9, COURSE_COUNT, "courses without a radius, or not at every point") \
+    /* A load: neighbouring points are equal in north and east. Place: the later point, from 1. */ \
+    ROW(10, EQUAL_NEIGHBOURS, "neighbouring points are equal in north and east") \
+    /* A load: in lines, legs that are exactly opposite; in fillets, a turn of more than 1,792. Place: the corner's point, from 1. */ \
+    ROW(11, SHARP_CORNER, "corner too sharp") \
+    /* A load: in fillets, a leg that is too short for the circles at its ends; in Dubins plans, one of under three radii in north and east. \
+     * Place: the leg's end point, from 1. */ \
+    ROW(12, SHORT_LEG, "leg too short for its turns") \
+    /* A fix: a number is NaN or infinite, or beyond the ranges above. */ \
+    ROW(13, NO_POSITION, "position out of range or not a number") \
+    /* A fix or a write: the words hold no state, or one that breaks a rule. */ \
+    ROW(14, NO_STATE, "state is empty or breaks a rule") \
+    /* A fix: the serial that it names is not the state's. */ \
+    ROW(15, OTHER_SERIAL, "serial of another plan") \
+    /* A write: the buffer is shorter than the file. */ \
+    ROW(16, NO_ROOM, "no room for the file") \
+    /* A load: there is no Dubins path for a leg. Place: the leg's end point, from 1. */ \
+    ROW(17, NO_CASE, "no Dubins path for a leg") \
+    /* Any call: a lent slice that has a least length is shorter. Nothing is written, so there is no place. */ \
+    ROW(100, MISFIT, "lent memory is too short")
+
+/* The numbers: FARNKUPPEL_ACCEPTED, and FARNKUPPEL_REFUSED_ with the name of each row. */
+#define FARNKUPPEL_NUMBER_ROW(number, name, text) , FARNKUPPEL_REFUSED_##name = number
 enum farnkuppel_refusal_number {
-    FARNKUPPEL_ACCEPTED = 0,
-    /* A load: the file has under 11 bytes. */
-    FARNKUPPEL_REFUSED_FILE_TOO_SHORT = 1,
-    /* A load: the file does not begin with WPL. */
-    FARNKUPPEL_REFUSED_NO_MARK = 2,
-    /* A load: the reader's version is none of 1 to 3, or the file's is 0. A write: the version is none of 1 to 3. */
-    FARNKUPPEL_REFUSED_NO_VERSION = 3,
-    /* A load: the file's serial is 0. */
-    FARNKUPPEL_REFUSED_NO_SERIAL = 4,
-    /* A load: the area length is not the number of bytes behind the header, or over 8,192. */
-    FARNKUPPEL_REFUSED_WRONG_AREA = 5,
-    /* A load: a record is cut short; has a wrong length, value or position for its kind; is newer than the file's version; or is of a kind that
-     * the reader does not know, in a file that is not newer than the reader. Place: the record's offset in the file. */
-    FARNKUPPEL_REFUSED_WRONG_RECORD = 6,
-    /* A load: a record that the reader does not know and may not leave out, in a newer file. Place: the record's offset in the file.
-     * A write: the plan needs a higher version. Place: 0. */
-    FARNKUPPEL_REFUSED_TOO_NEW = 7,
-    /* A load: under 3 points, or over 64. */
-    FARNKUPPEL_REFUSED_POINT_COUNT = 8,
-    /* A load: a course without a radius, or courses at some points only. */
-    FARNKUPPEL_REFUSED_COURSE_COUNT = 9,
-    /* A load: neighbouring points are equal in north and east. Place: the later point, from 1. */
-    FARNKUPPEL_REFUSED_EQUAL_NEIGHBOURS = 10,
-    /* A load: in lines, legs that are exactly opposite; in fillets, a turn of more than 1,792. Place: the corner's point, from 1. */
-    FARNKUPPEL_REFUSED_SHARP_CORNER = 11,
-    /* A load: in fillets, a leg that is too short for the circles at its ends; in Dubins plans, one of under three radii in north and east.
-     * Place: the leg's end point, from 1. */
-    FARNKUPPEL_REFUSED_SHORT_LEG = 12,
-    /* A fix: a number is NaN or infinite, or beyond the ranges above. */
-    FARNKUPPEL_REFUSED_NO_POSITION = 13,
-    /* A fix or a write: the words hold no state, or one that breaks a rule. */
-    FARNKUPPEL_REFUSED_NO_STATE = 14,
-    /* A fix: the serial that it names is not the state's. */
-    FARNKUPPEL_REFUSED_OTHER_SERIAL = 15,
-    /* A write: the buffer is shorter than the file. */
-    FARNKUPPEL_REFUSED_NO_ROOM = 16,
-    /* A load: there is no Dubins path for a leg. Place: the leg's end point, from 1. */
-    FARNKUPPEL_REFUSED_NO_CASE = 17,
-    /* Any call that writes: a lent slice is too short. Nothing is written, so there is no place. */
-    FARNKUPPEL_REFUSED_MISFIT = 100
+    FARNKUPPEL_ACCEPTED = 0
+    FARNKUPPEL_REFUSALS(FARNKUPPEL_NUMBER_ROW)
 };
+#undef FARNKUPPEL_NUMBER_ROW
+
+/* A refusal in words: the text of its row, "accepted" for 0, and "unknown refusal" for a number that has no row. */
+static inline const char *farnkuppel_refusal_name(uint32_t number)
+{
+#define FARNKUPPEL_TEXT_ROW(number, name, text) \
+    case number: \
+        return text;
+    switch (number) {
+        FARNKUPPEL_REFUSALS(FARNKUPPEL_TEXT_ROW)
+    case FARNKUPPEL_ACCEPTED:
+        return "accepted";
+    default:
+        return "unknown refusal";
+    }
+#undef FARNKUPPEL_TEXT_ROW
+}
 
 /* ---- a state */
 
@@ -214,6 +241,138 @@ enum farnkuppel_refusal_number {
 #define FARNKUPPEL_CIRCLE_CENTRE_EAST 1
 #define FARNKUPPEL_CIRCLE_CENTRE_DOWN 2
 #define FARNKUPPEL_CIRCLE_RADIUS 3
+
+/* ---- words as structs
+ *
+ * Nothing here calls an archive. Each function takes words as the calls below leave them, with the number of elements that there are, and reads none
+ * beyond. Where there are too few, what it answers is 0, but for the refusal of an answer. */
+
+/* A place or a direction in metres. */
+struct farnkuppel_metres {
+    float north, east, down;
+};
+
+/* A place in decimetres. */
+struct farnkuppel_decimetres {
+    int32_t north, east, down;
+};
+
+/* The answer to a fix. */
+struct farnkuppel_answer {
+    uint32_t refusal; /* FARNKUPPEL_REFUSED_MISFIT where there are too few words, so that these never look accepted */
+    uint32_t heading;
+    uint32_t index, phase, finished;
+};
+
+static inline struct farnkuppel_answer farnkuppel_answer_of(const uint32_t *answer, size_t answer_length)
+{
+    struct farnkuppel_answer found = {FARNKUPPEL_REFUSED_MISFIT, 0, 0, 0, 0};
+    if (answer_length >= FARNKUPPEL_ANSWER_WORDS) {
+        found.refusal = answer[FARNKUPPEL_ANSWER_REFUSAL];
+        found.heading = answer[FARNKUPPEL_ANSWER_HEADING];
+        found.index = answer[FARNKUPPEL_ANSWER_INDEX];
+        found.phase = answer[FARNKUPPEL_ANSWER_PHASE];
+        found.finished = answer[FARNKUPPEL_ANSWER_FINISHED];
+    }
+    return found;
+}
+
+/* The command of a fix. What its kind does not have is 0. */
+struct farnkuppel_command {
+    uint32_t kind;                             /* FARNKUPPEL_COMMAND_NONE, _LINE or _CIRCLE */
+    struct farnkuppel_metres start, direction; /* of a line */
+    struct farnkuppel_metres centre;           /* of a circle */
+    float radius;                              /* of a circle, in metres */
+    int sense;                                 /* of a circle, as seen from above: 1 clockwise, -1 anticlockwise */
+};
+
+/* From the answer, which has the kind and the sense, and the numbers of the command. A kind that is none of the three is FARNKUPPEL_COMMAND_NONE. */
+static inline struct farnkuppel_command farnkuppel_command_of(const uint32_t *answer, size_t answer_length, const float *command,
+                                                              size_t command_length)
+{
+    struct farnkuppel_command found = {FARNKUPPEL_COMMAND_NONE, {0, 0, 0}, {0, 0, 0}, {0, 0, 0}, 0, 0};
+    if (answer_length < FARNKUPPEL_ANSWER_WORDS || command_length < FARNKUPPEL_COMMAND_NUMBERS)
+        return found;
+    if (answer[FARNKUPPEL_ANSWER_KIND] == FARNKUPPEL_COMMAND_LINE) {
+        found.kind = FARNKUPPEL_COMMAND_LINE;
+        found.start.north = command[FARNKUPPEL_LINE_START_NORTH];
+        found.start.east = command[FARNKUPPEL_LINE_START_EAST];
+        found.start.down = command[FARNKUPPEL_LINE_START_DOWN];
+        found.direction.north = command[FARNKUPPEL_LINE_DIRECTION_NORTH];
+        found.direction.east = command[FARNKUPPEL_LINE_DIRECTION_EAST];
+        found.direction.down = command[FARNKUPPEL_LINE_DIRECTION_DOWN];
+    }
+    if (answer[FARNKUPPEL_ANSWER_KIND] == FARNKUPPEL_COMMAND_CIRCLE) {
+        found.kind = FARNKUPPEL_COMMAND_CIRCLE;
+        found.centre.north = command[FARNKUPPEL_CIRCLE_CENTRE_NORTH];
+        found.centre.east = command[FARNKUPPEL_CIRCLE_CENTRE_EAST];
+        found.centre.down = command[FARNKUPPEL_CIRCLE_CENTRE_DOWN];
+        found.radius = command[FARNKUPPEL_CIRCLE_RADIUS];
+        found.sense = (answer[FARNKUPPEL_ANSWER_SENSE] == FARNKUPPEL_SENSE_CLOCKWISE) -
+                      (answer[FARNKUPPEL_ANSWER_SENSE] == FARNKUPPEL_SENSE_ANTICLOCKWISE);
+    }
+    return found;
+}
+
+/* What a state says of the whole plan. */
+struct farnkuppel_head {
+    uint32_t serial;
+    uint32_t mode;
+    uint32_t radius; /* decimetres, 0 for none */
+    uint32_t count;  /* of points */
+};
+
+static inline struct farnkuppel_head farnkuppel_head_of(const int32_t *state, size_t state_length)
+{
+    struct farnkuppel_head found = {0, 0, 0, 0};
+    if (state_length >= FARNKUPPEL_STATE_WORDS) {
+        found.serial = (uint32_t)state[FARNKUPPEL_STATE_SERIAL];
+        found.mode = (uint32_t)state[FARNKUPPEL_STATE_MODE];
+        found.radius = (uint32_t)state[FARNKUPPEL_STATE_RADIUS];
+        found.count = (uint32_t)state[FARNKUPPEL_STATE_COUNT];
+    }
+    return found;
+}
+
+/* Where on the plan the aircraft is. */
+struct farnkuppel_progress {
+    uint32_t index, phase, finished;
+};
+
+static inline struct farnkuppel_progress farnkuppel_progress_of(const int32_t *state, size_t state_length)
+{
+    struct farnkuppel_progress found = {0, 0, 0};
+    if (state_length >= FARNKUPPEL_STATE_WORDS) {
+        found.index = (uint32_t)state[FARNKUPPEL_STATE_INDEX];
+        found.phase = (uint32_t)state[FARNKUPPEL_STATE_PHASE];
+        found.finished = (uint32_t)state[FARNKUPPEL_STATE_FINISHED];
+    }
+    return found;
+}
+
+/* 1 where a state has a point of a number, which goes from 1 to the count, and FARNKUPPEL_MOST_POINTS at the most; else 0. */
+static inline int farnkuppel_has_point(const int32_t *state, size_t state_length, uint32_t number)
+{
+    return number >= 1 && number <= FARNKUPPEL_MOST_POINTS && number <= farnkuppel_head_of(state, state_length).count;
+}
+
+/* A state's point by its number; zeros where it has no such point. */
+static inline struct farnkuppel_decimetres farnkuppel_point_of(const int32_t *state, size_t state_length, uint32_t number)
+{
+    struct farnkuppel_decimetres found = {0, 0, 0};
+    if (farnkuppel_has_point(state, state_length, number)) {
+        found.north = state[FARNKUPPEL_STATE_NORTHS + number - 1];
+        found.east = state[FARNKUPPEL_STATE_EASTS + number - 1];
+        found.down = state[FARNKUPPEL_STATE_DOWNS + number - 1];
+    }
+    return found;
+}
+
+/* The course at a state's point by its number; 0 where it has no such point, and at every point of lines and fillets. */
+static inline uint32_t farnkuppel_course_of(const int32_t *state, size_t state_length, uint32_t number)
+{
+    return farnkuppel_has_point(state, state_length, number) ? (uint32_t)state[FARNKUPPEL_STATE_COURSES + number - 1] : 0;
+}
 
 /* ---- in both archives */
 

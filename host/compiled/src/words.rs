@@ -1,46 +1,73 @@
 //! A state and an answer as the words of the C interface.
 
-use crate::calls::{ANSWER_WORDS, COMMAND_NUMBERS};
+use archive::size::COMMAND_NUMBERS;
+use archive::{number, size};
+use archive::{Answer as AnswerWords, Command as CommandNumbers, CIRCLE, LINE};
 use reference::{Answer, Command, Mode, State};
 use std::fmt::UpperHex;
 
-pub const STATE_WORDS: usize = 263;
-pub const SERIAL: usize = 0;
-pub const MODE: usize = 1;
-pub const RADIUS: usize = 2;
-pub const COUNT: usize = 3;
-pub const INDEX: usize = 4;
-pub const PHASE: usize = 5;
-pub const FINISHED: usize = 6;
-pub const NORTHS: usize = 7;
-pub const EASTS: usize = 71;
-pub const DOWNS: usize = 135;
-pub const COURSES: usize = 199;
+pub use archive::size::{
+    STATE_COUNT as COUNT, STATE_COURSES as COURSES, STATE_DOWNS as DOWNS, STATE_EASTS as EASTS,
+    STATE_FINISHED as FINISHED, STATE_INDEX as INDEX, STATE_MODE as MODE, STATE_NORTHS as NORTHS, STATE_PHASE as PHASE,
+    STATE_RADIUS as RADIUS, STATE_SERIAL as SERIAL, STATE_WORDS,
+};
 
-pub type Words = [i32; STATE_WORDS];
+pub type Words = archive::State;
+
+fn mode_word(mode: Mode) -> u32 {
+    match mode {
+        Mode::Lines => number::MODE_LINES,
+        Mode::Fillets => number::MODE_FILLETS,
+        Mode::Dubins => number::MODE_DUBINS,
+    }
+}
+
+/// Puts numbers into the words from a place on.
+fn put(words: &mut Words, from: usize, numbers: impl Iterator<Item = i32>) {
+    for (word, number) in words[from..].iter_mut().zip(numbers) {
+        *word = number;
+    }
+}
 
 pub fn of_state(state: &State) -> Words {
     let mut words = [0; STATE_WORDS];
-    let front = [state.serial, state.mode as u32, state.radius, state.count, state.index, state.phase];
-    words[..FINISHED].copy_from_slice(&front.map(|number| number as i32));
-    words[FINISHED] = i32::from(state.finished);
-    for (part, block) in [NORTHS..EASTS, EASTS..DOWNS, DOWNS..COURSES].into_iter().enumerate() {
-        for (word, point) in words[block].iter_mut().zip(&state.points) {
-            *word = point[part];
-        }
+    for (place, number) in [
+        (SERIAL, state.serial),
+        (MODE, mode_word(state.mode)),
+        (RADIUS, state.radius),
+        (COUNT, state.count),
+        (INDEX, state.index),
+        (PHASE, state.phase),
+        (FINISHED, u32::from(state.finished)),
+    ] {
+        words[place] = number as i32;
     }
-    for (word, course) in words[COURSES..].iter_mut().zip(&state.courses) {
-        *word = *course as i32;
-    }
+    put(&mut words, NORTHS, state.points.iter().map(|point| point[0]));
+    put(&mut words, EASTS, state.points.iter().map(|point| point[1]));
+    put(&mut words, DOWNS, state.points.iter().map(|point| point[2]));
+    put(&mut words, COURSES, state.courses.iter().map(|course| *course as i32));
     words
+}
+
+fn take_points(words: &Words, state: &mut State) {
+    let (norths, easts, downs) = (&words[NORTHS..], &words[EASTS..], &words[DOWNS..]);
+    for (point, ((north, east), down)) in state.points.iter_mut().zip(norths.iter().zip(easts).zip(downs)) {
+        *point = [*north, *east, *down];
+    }
+}
+
+fn take_courses(words: &Words, state: &mut State) {
+    for (course, word) in state.courses.iter_mut().zip(&words[COURSES..]) {
+        *course = *word as u32;
+    }
 }
 
 /// The state that words hold, or none where the mode, the radius, the phase or the finished word is no such thing.
 pub fn to_state(words: &Words) -> Option<State> {
-    let mode = match words[MODE] {
-        0 => Mode::Lines,
-        1 => Mode::Fillets,
-        2 => Mode::Dubins,
+    let mode = match words[MODE] as u32 {
+        number::MODE_LINES => Mode::Lines,
+        number::MODE_FILLETS => Mode::Fillets,
+        number::MODE_DUBINS => Mode::Dubins,
         _ => return None,
     };
     let radius = u16::try_from(words[RADIUS]).ok()?;
@@ -51,31 +78,59 @@ pub fn to_state(words: &Words) -> Option<State> {
     let mut state = State { serial: words[SERIAL] as u32, mode, count: words[COUNT] as u32, ..State::EMPTY };
     (state.radius, state.index, state.phase) = (u32::from(radius), words[INDEX] as u32, u32::from(phase));
     state.finished = words[FINISHED] == 1;
-    let blocks = words[NORTHS..EASTS].iter().zip(&words[EASTS..DOWNS]).zip(&words[DOWNS..COURSES]);
-    for (point, ((north, east), down)) in state.points.iter_mut().zip(blocks) {
-        *point = [*north, *east, *down];
-    }
-    for (course, word) in state.courses.iter_mut().zip(&words[COURSES..]) {
-        *course = *word as u32;
-    }
+    take_points(words, &mut state);
+    take_courses(words, &mut state);
     Some(state)
 }
 
-pub fn of_answer(answer: &Answer) -> ([u32; ANSWER_WORDS], [f32; COMMAND_NUMBERS]) {
-    let (number, place) = answer.refusal.map_or((0, 0), |r| (r.number, r.place));
+/// A command with numbers at their places, and 0 elsewhere.
+fn placed<const N: usize>(places: [usize; N], numbers: [f32; N]) -> CommandNumbers {
+    let mut command = [0.0; COMMAND_NUMBERS];
+    for (place, number) in places.into_iter().zip(numbers) {
+        command[place] = number;
+    }
+    command
+}
+
+pub fn of_answer(answer: &Answer) -> (AnswerWords, CommandNumbers) {
+    let (refusal, place) = answer.refusal.map_or((number::ACCEPTED, 0), |r| (r.number, r.place));
     let (kind, sense, command) = match answer.command {
-        Command::None => (0, 0, [0.0; COMMAND_NUMBERS]),
-        Command::Line { start: s, direction: d } => (1, 0, [s[0], s[1], s[2], d[0], d[1], d[2]]),
-        Command::Circle { centre: c, radius, sense } => (2, sense as u32, [c[0], c[1], c[2], radius, 0.0, 0.0]),
+        Command::None => (number::COMMAND_NONE, number::SENSE_NONE, [0.0; COMMAND_NUMBERS]),
+        Command::Line { start: s, direction: d } => {
+            (number::COMMAND_LINE, number::SENSE_NONE, placed(LINE, [s[0], s[1], s[2], d[0], d[1], d[2]]))
+        }
+        Command::Circle { centre: c, radius, sense } => {
+            (number::COMMAND_CIRCLE, sense as u32, placed(CIRCLE, [c[0], c[1], c[2], radius]))
+        }
     };
-    let finished = u32::from(answer.finished);
-    ([number, place, kind, sense, answer.heading, answer.index, answer.phase, finished], command)
+    let mut words = progress_words(answer.index, answer.phase, u32::from(answer.finished));
+    for (place, word) in [
+        (size::ANSWER_REFUSAL, refusal),
+        (size::ANSWER_PLACE, place),
+        (size::ANSWER_KIND, kind),
+        (size::ANSWER_SENSE, sense),
+        (size::ANSWER_HEADING, answer.heading),
+    ] {
+        words[place] = word;
+    }
+    (words, command)
+}
+
+/// An answer's words with an index, a phase and finished, and 0 elsewhere.
+fn progress_words(index: u32, phase: u32, finished: u32) -> AnswerWords {
+    let mut words = [0; size::ANSWER_WORDS];
+    words[size::ANSWER_INDEX] = index;
+    words[size::ANSWER_PHASE] = phase;
+    words[size::ANSWER_FINISHED] = finished;
+    words
 }
 
 /// The answer to a fix on words that hold no state: refused, with the progress words as they were given.
-pub fn of_no_state(words: &Words) -> ([u32; ANSWER_WORDS], [f32; COMMAND_NUMBERS]) {
+pub fn of_no_state(words: &Words) -> (AnswerWords, CommandNumbers) {
     let [index, phase, finished] = [INDEX, PHASE, FINISHED].map(|place| words[place] as u32);
-    ([14, 0, 0, 0, 0, index, phase, finished], [0.0; COMMAND_NUMBERS])
+    let mut answer = progress_words(index, phase, finished);
+    answer[size::ANSWER_REFUSAL] = number::REFUSED_NO_STATE;
+    (answer, [0.0; COMMAND_NUMBERS])
 }
 
 pub fn hex_of_words<T: UpperHex>(words: &[T]) -> String {

@@ -1,0 +1,95 @@
+//! The texts of --help.
+
+use crate::arguments::Command;
+
+const INTRODUCTION: &str = "\
+farnkuppel: plans of survey aircraft, by the proved path manager
+
+";
+
+const COMMON: &str = "
+  farnkuppel COMMAND --help    more on a command
+  farnkuppel --version         the release, the interface and the newest version of plan files
+
+Units: points and radii are whole decimetres; north, east and down. Courses and headings are 1/4096 of a circle, clockwise from north.
+Fixes and commands are in metres.
+Exit status: 0 done; 1 the plan is refused, and the answer says why: refused NUMBER at PLACE: REASON; 2 usage or file trouble, one line
+on standard error. Files are written whole or not at all, and never over an input. Options end at --; a file's name can be -.
+";
+
+pub const CHECK: &str = "\
+Says in one line whether PLAN loads: its serial, version, mode and points, or the refusal.
+
+  --reader V    by the reader of version V, any number; without it the newest
+";
+
+pub const LIST: &str = "\
+Lists PLAN as the newest reader loads it: a line 'plan SERIAL version VERSION mode MODE points COUNT', then a line for each point,
+'NUMBER NORTH EAST DOWN COURSE': decimetres, and a course in 1/4096 of a circle, clockwise from north, or - where the plan has none.
+";
+
+pub const NOTES: &str = "\
+Prints a line 'NUMBER TEXT' for each note of PLAN. Bytes that are not printable ASCII, and the backslash, are written \\xNN.
+";
+
+pub const TEXT: &str = "\
+Prints PLAN as text: the lines of 'list', a line 'radius R' in decimetres where the plan has one, and its notes and speeds as comments,
+where they stand. 'farnkuppel new' makes the plan from such a text; docs/TEXT.md has the whole form.
+";
+
+pub const NEW: &str = "\
+Writes the plan file of a text to PLAN, at the version that the text says. The text:
+
+  # A line that starts with # is a comment. Blank lines are free.
+  plan 7 version 2 mode fillets points 3
+  radius 200
+  1 0 0 -1000 -
+  2 1000 0 -1000 -
+  3 1000 2000 -1000 -
+
+The first line has the serial, the version, the mode (lines, fillets or dubins) and the number of points. A radius, for fillets and
+dubins, is in decimetres. A point has its number, north, east and down in decimetres, and its course in 1/4096 of a circle, clockwise
+from north: in dubins at every point, else -. Notes and speeds are no part of a plan, and are not written.
+What the library refuses is answered so, with the line of the text where one is to blame; a line that is none of these is trouble.
+";
+
+pub const FIXES: &str = "\
+Writes the fixes of a text to FIXES. A line of the text is a fix, 'SERIAL NORTH EAST DOWN': the serial of the plan that it is for, and
+three numbers in metres; nan and inf can be tried. Blank lines, and lines that start with #, are free.
+In FIXES a fix is 16 bytes, big-endian: the serial, then north, east and down as the bits of an f32.
+";
+
+pub const FLY: &str = "\
+Flies the fixes along the plan from its start, and prints a line for each: the line or circle to follow in metres, the heading in 1/4096
+of a circle, and the index, phase and finished after the fix; or the refusal of the fix. The first line names the columns.
+The exit status is 0 where the plan loads, whatever its fixes are answered. A FIXES that ends within a fix is trouble, and none is flown.
+
+  --reader V    by the reader of version V, any number; without it the newest
+  --bits        numbers as the eight hexadecimal digits of an f32, without the first line: what target/bin/fly prints
+";
+
+pub const SIMULATE: &str = "\
+Flies a simulated aircraft along PLAN, from its first point until the plan is finished, and writes the fixes, ten a second, to FIXES.
+The answer says whether it was finished: a flight ends early where the aircraft leaves the range of fixes, and is given up after eight
+times the length of the plan's legs. The exit status is 0 all the same.
+
+  --refused     puts fixes among them that are refused: some name another plan, some have a north that is no number
+";
+
+pub const DRAW: &str = "\
+Draws PLAN and the flight that FIXES make along it, as SVG, into PICTURE: the plan's legs, points, circles and courses, the track by
+phase, and crosses where fixes were refused.
+";
+
+/// The help of the whole: a line for each command.
+pub fn all(commands: &[Command]) -> String {
+    let usages: Vec<String> = commands.iter().map(Command::usage).collect();
+    let wide = usages.iter().map(String::len).max().unwrap_or(0);
+    let rows = usages.iter().zip(commands).map(|(usage, command)| format!("  {usage:wide$}  {}\n", command.does));
+    INTRODUCTION.to_string() + &rows.collect::<String>() + COMMON
+}
+
+/// The help of a command.
+pub fn one(command: &Command) -> String {
+    format!("usage: {}\n\n{}", command.usage(), command.help)
+}
