@@ -53,7 +53,7 @@ static void check_once(struct file file, uint32_t reader, size_t spare, uint8_t 
     size_t answers = FARNKUPPEL_CHECK_WORDS + spare;
     uint8_t *bytes = lend_copy(&file_memory, file.bytes, file.length);
     uint32_t *answer = lend(&answer_memory, answers * WORD, fill);
-    HOLD(farnkuppel_check(bytes, file.length, reader, answer, answers) == FARNKUPPEL_ACCEPTED);
+    HOLD(farnkuppel_check(bytes, file.length, reader, answer, answers) == load->result);
     take_copy(&file_memory, file.bytes, file.length);
     take_back(&answer_memory, answers * WORD, FARNKUPPEL_CHECK_WORDS * WORD, fill);
     HOLD(answer[FARNKUPPEL_CHECK_REFUSAL] == load->result && answer[FARNKUPPEL_CHECK_PLACE] == load->answer[FARNKUPPEL_LOAD_PLACE]);

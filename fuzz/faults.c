@@ -124,7 +124,7 @@ uint32_t __wrap_farnkuppel_note(const uint8_t *file, size_t length, uint32_t num
 uint32_t __wrap_farnkuppel_check(const uint8_t *file, size_t length, uint32_t reader, uint32_t *answer, size_t answers)
 {
     uint32_t result = __real_farnkuppel_check(file, length, reader, answer, answers);
-    if (FAULT == 21 && result == 0 && answer[FARNKUPPEL_CHECK_REFUSAL] == FARNKUPPEL_REFUSED_SHORT_LEG)
+    if (FAULT == 21 && result == FARNKUPPEL_REFUSED_SHORT_LEG)
         answer[FARNKUPPEL_CHECK_PLACE] = 0;
     return result;
 }

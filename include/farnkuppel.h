@@ -404,8 +404,7 @@ uint32_t farnkuppel_write(const int32_t *state, size_t state_length, uint32_t ve
 /* The number of the first refusal of a plan file for a reader of a version, 0 if it loads. Reads `file`, and writes nothing. */
 uint32_t farnkuppel_refusal(const uint8_t *file, size_t length, uint32_t reader);
 
-/* The same with its place. Reads `file`; writes the first FARNKUPPEL_CHECK_WORDS of `answer`. A file that is refused is an answer, not a refusal of
- * the call, which gives FARNKUPPEL_ACCEPTED. */
+/* The same, with its place in the answer. Reads `file`; writes the first FARNKUPPEL_CHECK_WORDS of `answer`. */
 uint32_t farnkuppel_check(const uint8_t *file, size_t file_length, uint32_t reader, uint32_t *answer, size_t answer_length);
 
 /* How many notes a plan file has. They are numbered from 1 to so many, and each has bytes. Reads `file`; writes the first FARNKUPPEL_NOTES_WORDS of

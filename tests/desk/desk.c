@@ -63,8 +63,8 @@ static void ask(const char *name, uint32_t reader)
     uint8_t *copy = copy_of_file();
     uint32_t *answer = lent_words(2);
     printf("%s %" PRIu32 " %" PRIu32, name, reader, farnkuppel_refusal(copy, length, reader));
-    if (farnkuppel_check(copy, length, reader, answer, 2) != 0)
-        printf(" not checked");
+    if (farnkuppel_check(copy, length, reader, answer, 2) != answer[0])
+        printf(" returned otherwise");
     print_words(answer, 2);
     free(copy);
 }

@@ -58,7 +58,7 @@ impl Tally {
         let desk = (calls::refusal(file, reader), calls::check(file, reader, &mut checked));
         self.loads += 1;
         self.load_refusals[number as usize] += 1;
-        let desk_agrees = (desk, checked) == ((number, 0), answer_wanted);
+        let desk_agrees = (desk, checked) == ((number, number), answer_wanted);
         if (result, answer, state) != (number, answer_wanted, state_wanted) || !desk_agrees {
             let file = hex_of_bytes(file);
             let differing = first_difference(&state, &state_wanted);
