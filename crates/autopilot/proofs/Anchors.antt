@@ -1,4 +1,4 @@
--- Document 01's example in an autopilot's words, computed from the definitions. Assumes nothing.
+-- A file in an autopilot's words, computed from the definitions. Assumes nothing.
 use mathlib.Core.Path.{_≡_, refl, ap}
 use mathlib.Core.Bool.{Bool, true}
 use mathlib.Core.List.{List, [], _∷_}

@@ -1,4 +1,4 @@
--- Two buffers loaded from one file by an older reader and by reader three, from demand 3. Assumes nothing.
+-- Two buffers loaded from one file by an older reader and by the newest, from `demand` (flight/proofs/DemandLaws). Assumes nothing.
 use mathlib.Core.Path.{_≡_, refl, sym, ap, subst, _∙_}
 use mathlib.Core.Bool.{true}
 use mathlib.Core.List.{List, [], _++_}

@@ -1,5 +1,5 @@
--- Lists of calls on a state's words: what each replies, and what the words are in the end. From words that hold a state both are those of the run
--- of that state. Assumes nothing.
+-- Clause 17.7: lists of calls on a state's words: what each replies, and what the words are in the end. From words that hold a state both are
+-- those of the run of that state. Assumes nothing.
 use mathlib.Core.Path.{_≡_}
 use mathlib.Core.List.{List, [], _∷_}
 use Prim.Native.Nat.{ℕ}

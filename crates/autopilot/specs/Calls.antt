@@ -1,5 +1,5 @@
--- The calls of an autopilot: what each answers, and what the caller's memory holds afterwards, by the definitions of a load, a fix and a write.
--- Assumes nothing.
+-- Clauses 17.1 to 17.3, 17.5: the calls of an autopilot: what each answers, and what the caller's memory holds afterwards, by the definitions of
+-- a load, a fix and a write. Assumes nothing.
 use mathlib.Core.Bool.{Bool}
 use mathlib.Core.List.{List, [], _∷_}
 use Prim.Native.Nat.{ℕ}
@@ -22,7 +22,7 @@ use Rattle.wpl.specs.declared.Loaded.{Loaded}
 use Rattle.wpl.specs.declared.Written.{Written}
 use Rattle.wpl.specs.Write.{writeOf, writtenOf, bufferOf}
 
--- ---- "A lent slice that is too short is refused by one number of our own .., and nothing at all is written."
+-- ---- 17.5: which lengths are enough. Where one is not, the call answers 100 and leaves everything as it was.
 unfoldable pub pairFits : ℕ → ℕ → ℕ → Bool
 pairFits state answer least = both (leb stateLength state) (leb least answer)
 
@@ -35,7 +35,7 @@ fixFits state answer command = both (pairFits (length state) (length answer) 8) 
 abbrev pub writeFits : List ℤ → List ℕ → Bool
 writeFits state answer = pairFits (length state) (length answer) 3
 
--- ---- load: "the state words hold the loaded state, or the empty state on a refusal"
+-- ---- 17.1: load
 abbrev pub loadWords : Loaded → List ℕ
 loadWords x = x .refusal ∷ wordOf (x .place) ∷ []
 
@@ -48,7 +48,7 @@ loadState fits x state = choose fits (over (stateWords (x .state)) state) state
 unfoldable pub loadAnswer : Bool → Loaded → List ℕ → List ℕ
 loadAnswer fits x answer = choose fits (over (loadWords x) answer) answer
 
--- ---- fix: "the state words hold the next state, and on a refusal are untouched"
+-- ---- 17.2: fix
 -- of words that hold no state: a refusal, with the words of index, phase and finished as they are
 abbrev pub refusedWords : ℕ → ℕ → List ℤ → List ℕ
 refusedWords number place ws = number ∷ place ∷ 0 ∷ 0 ∷ 0 ∷ wordAt ws indexPlace ∷ wordAt ws phasePlace ∷ wordAt ws finishedPlace ∷ []

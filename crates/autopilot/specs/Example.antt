@@ -1,6 +1,5 @@
--- Document 01's example of a file, in an autopilot's words: what a load leaves in them and what a list of calls replies, in numbers; and what two
--- buffers that are alike give for it. It holds the definitions of this crate to the header: one that is changed together with the code fails here.
--- Assumes nothing.
+-- Holds clauses 17.1 to 17.3, 17.5, 17.7: a file of lines in an autopilot's words: what a load leaves in them and what a list of calls replies,
+-- in numbers; and what two buffers that are alike give for it. A definition that is changed together with the code fails here. Assumes nothing.
 use mathlib.Core.Path.{_≡_}
 use mathlib.Core.Bool.{true, false}
 use mathlib.Core.List.{List, [], _∷_, _++_}
@@ -19,7 +18,7 @@ use Rattle.autopilot.specs.Held.{LoadHolds, FixHolds}
 use Rattle.autopilot.specs.CallList.{Call, fix, write, Reply, fixed, written, replies, wordsInTheEnd}
 use Rattle.autopilot.specs.TwoBuffers.{loadedBy, AreBytes, AlikeBuffers}
 
--- 57 50 4C 00 01 00 00 00 07 00 2A, and three points
+-- the header, serial 7, and three points
 abbrev pub example : List ℕ
 example =
     (0x57 ∷ 0x50 ∷ 0x4C ∷ 0 ∷ 1 ∷ 0 ∷ 0 ∷ 0 ∷ 7 ∷ 0 ∷ 0x2A ∷ [])

@@ -1,5 +1,4 @@
--- What a state's words hold after a load and after a fix: "the state words hold the loaded state, or the empty state on a refusal"; "the state
--- words hold the next state, and on a refusal are untouched". Assumes nothing.
+-- Clauses 17.1, 17.2: what a state's words hold after a load and after a fix. Assumes nothing.
 use mathlib.Core.Path.{_≡_}
 use mathlib.Core.Bool.{Bool, true}
 use mathlib.Core.List.{List}
@@ -27,7 +26,7 @@ pub record LoadHolds (fits : Bool) (reader : ℕ) (file : List ℕ) (before afte
   pub empty : fits ≡ true → (number place : ℕ) → loadOf reader file ≡ refused number place
       → (after ≡ over (replicate 263 (pos 0)) before) × Hold after emptyState
 
--- "a refused fix gives back its state", "a refused write leaves the buffer untouched"
+-- 15.3 and 15.4: what a refusal leaves is what was there
 abbrev pub Untouched : {A : Type 0} → ℕ → List A → List A → Type 0
 Untouched result before after = (result ≡ 0 → ⊥) → after ≡ before
 

@@ -1,5 +1,5 @@
--- Demand 3 in an autopilot's terms: "two buffers loaded from one file by an older reader and by reader three, the older one not refusing, stay
--- equal word for word and give equal answers and commands after every list of calls". Assumes nothing.
+-- Clause 17.7: one file, loaded by an older reader and by the newest into two buffers of words, and every list of calls on both. Assumes
+-- nothing.
 use mathlib.Core.Path.{_≡_}
 use mathlib.Core.Bool.{true}
 use mathlib.Core.List.{List}

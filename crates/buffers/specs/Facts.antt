@@ -1,5 +1,5 @@
--- What `over`, `splice` and `zeroed` come to, by one example of each. A definition that is changed together with the code that it describes is
--- refused here. Assumes nothing.
+-- Holds clauses 6.5, 17.5: what `over`, `splice` and `zeroed` come to, by one example of each. A definition that is changed together with the
+-- code that it describes is refused here. Assumes nothing.
 use mathlib.Core.Path.{_≡_}
 use mathlib.Core.List.{List, [], _∷_}
 use Prim.Native.Nat.{ℕ}

@@ -1,4 +1,5 @@
--- A buffer of which some elements were replaced, its first ones or those from an offset on; all others are what they were. Assumes nothing.
+-- Clauses 6.5, 17.5: a buffer of which some elements were replaced, its first ones or those from an offset on; all others are what they were.
+-- Assumes nothing.
 use mathlib.Core.List.{List, _++_}
 use Prim.Native.Nat.{ℕ, _+_}
 use lib.IntN.{ℤ, pos}

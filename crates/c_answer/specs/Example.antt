@@ -1,5 +1,5 @@
--- An answer's words and a command's numbers, one by one, as the header places them. It holds their definitions: one that is changed together with the
--- code fails here. Assumes nothing.
+-- Holds clause 17.11: an answer's words and a command's numbers, one by one, as the header places them. A definition that is changed together
+-- with the code fails here. Assumes nothing.
 use mathlib.Core.Path.{_≡_}
 use mathlib.Core.Bool.{true, false}
 use mathlib.Core.List.{[], _∷_}

@@ -1,5 +1,5 @@
--- What holds of a state's words, whatever their definitions say: they are taken for the state that was put into them; a Dubins state of three
--- points and the empty state in numbers; and the largest mode, radius, phase and finished that words may hold. Assumes nothing.
+-- Holds clauses 17.4, 17.6: words are taken for the state that was put into them; a Dubins state of three points and the empty state in numbers;
+-- and the largest mode, radius, phase and finished that words may hold. Assumes nothing.
 use mathlib.Core.Path.{_≡_}
 use mathlib.Core.Bool.{true}
 use mathlib.Core.List.{List, [], _∷_, _++_}
@@ -44,14 +44,14 @@ pub record Layout : Type 0 where
   pub taken : (s : State) (ws : List ℤ) → Storable s → takenOf (over (stateWords s) ws) ≡ good s
   pub words : stateWords sample ≡ sampleWords
   pub back : takenOf sampleWords ≡ good sample
-  -- "The empty state is all zero"
+  -- 8.2: the empty state
   pub empty : stateWords emptyState ≡ replicate 263 (pos 0)
 
 -- words of a serial and a count, with these small numbers between and behind them
 abbrev pub small : ℤ → ℤ → ℤ → ℤ → List ℤ
 small mode radius phase finished = pos 7 ∷ mode ∷ radius ∷ pos 3 ∷ pos 2 ∷ phase ∷ finished ∷ []
 
--- "Words that are no state (a mode that does not exist, a field too large for its type, finished neither 0 nor 1) are refused 14"
+-- 17.4: a mode that does not exist, a number too large for its field, and a finished that is neither 0 nor 1 are no state
 pub record Edges : Type 0 where
   pub most : isGood (takenOf (small (pos 2) (pos 65535) (pos 255) (pos 1))) ≡ true
   pub mode : takenOf (small (pos 3) (pos 0) (pos 1) (pos 0)) ≡ refused 14 0

@@ -1,5 +1,5 @@
--- A state as C sees it: "int32_t" words at fixed places, seven that hold numbers with no sign by their bits, then a block for each kind of
--- number of the plan. Assumes nothing.
+-- Clauses 17.4, 17.6: a state as C sees it: signed words of 32 bits at fixed places, seven that hold numbers with no sign by their bits, then a
+-- block for each kind of number of the plan. Assumes nothing.
 use mathlib.Core.Bool.{Bool}
 use mathlib.Core.List.{List, [], _∷_, _++_, map}
 use Prim.Native.Nat.{ℕ, _+_, _≤_, _<_}
@@ -110,13 +110,13 @@ planAt ws = seen (headAt ws) (part northsPlace ws) (part eastsPlace ws) (part do
 abbrev pub stateAt : List ℤ → State
 stateAt ws = record { plan = planAt ws; progress = progressAt ws }
 
--- "Words that are no state (a mode that does not exist, a field too large for its type, finished neither 0 nor 1)"
+-- 17.4: each word is one that a state can have
 unfoldable pub holdsState : List ℤ → Bool
 holdsState ws =
     both (leb (wordAt ws modePlace) 2)
     (both (ltb (wordAt ws radiusPlace) 65536) (both (ltb (wordAt ws phasePlace) 256) (leb (wordAt ws finishedPlace) 1)))
 
--- "are refused 14"
+-- the state that the words hold, or 14
 unfoldable pub takenOf : List ℤ → Outcome State
 takenOf ws = check (holdsState ws) noState (good (stateAt ws))
 

@@ -1,4 +1,4 @@
--- A natural lies in a range, its ends among it. Assumes nothing.
+-- Clause 1.9: a natural lies in a range, its ends among it. Assumes nothing.
 use mathlib.Core.Bool.{Bool}
 use Prim.Native.Nat.{ℕ}
 use lib.Dec.{leb}

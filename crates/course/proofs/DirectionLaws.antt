@@ -1,4 +1,4 @@
--- Laws of D(k), for every k: its neighbour, its quarter turns, document 01's facts of the table. Assumes nothing.
+-- Laws of D(k), for every k: its neighbour, its quarter turns, and clauses 2.2 and 2.5 of the table. Assumes nothing.
 use mathlib.Core.Path.{_≡_, refl, sym, ap, _∙_, subst}
 use Prim.Native.Nat.{ℕ, zero, suc, _+_, _*_, _-_, _/_, _%_, _<_}
 use native.Mathlib.Omega.{arith}
@@ -122,7 +122,7 @@ direction-near k =
     subst (Near 16384) (sym (direction-here k))
     (turned-near (k / 1024) (first j) (record { north = record { within = sine-most (1024 - j) (omega arith) }; east = record { within = sine-most j (omega arith) } }))
 
--- ---- document 01's facts of the table
+-- ---- 2.2 and 2.5
 length-here : (k : ℕ) → squaredLength (directionOf k) ≡ squaredLength (first (k % 1024))
 length-here k = ap squaredLength (direction-here k) ∙ length-turned (k / 1024) (first (k % 1024))
 

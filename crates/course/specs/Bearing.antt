@@ -1,4 +1,4 @@
--- Document 01's bearing and signed bearing. Assumes nothing.
+-- Clauses 2.6, 2.7: bearing and signed bearing. Assumes nothing.
 use mathlib.Core.Path.{_≡_}
 use mathlib.Core.Bool.{Bool, _&&_}
 use Prim.Native.Nat.{ℕ, zero, suc, _+_, _-_, _*_, _%_, _^_, _≤_, _<_}
@@ -15,8 +15,8 @@ use Rattle.course.specs.Direction.{directionOf}
 unfoldable pub edgeOf : ℕ → Vector
 edgeOf k = directionOf k
 
--- "Bearing of a vector v ≠ 0: the one k with cross(D(k), v) ≥ 0 and cross(D(k+1), v) < 0, indices taken round." What a reader has to
--- believe; `bearing` promises it of its answer, and that no other k is one.
+-- 2.6: v has reached the edge of unit k and not that of the unit after it; after 4095 comes 0. What a reader has to believe; `bearing` promises
+-- it of its answer, and that no other k is one.
 pub record IsBearing (v : Vector) (k : ℕ) : Type 0 where
   pub round : k < 4096
   pub from : pos 0 ≤ℤ cross (edgeOf k) v
@@ -58,7 +58,7 @@ bearingBy (negsuc n) (negsuc e) = bearingIn 2 (suc n) (suc e)
 unfoldable pub bearingOf : Vector → ℕ
 bearingOf v = bearingBy (v .north) (v .east)
 
--- "Signed bearing: −2048..2047."
+-- 2.7: from −2048 to 2047
 pub record IsSigned (z : ℤ) : Type 0 where
   pub least : negsuc 2047 ≤ℤ z
   pub most : z ≤ℤ pos 2047
@@ -77,7 +77,7 @@ pub record Reached (a b t : ℕ) : Type 0 where
   pub from : 1 ≤ t → edgeEast t * a ≤ edgeNorth t * b
   pub upto : t < 1024 → edgeNorth (suc t) * b < edgeEast (suc t) * a
 
--- r is the bearing of v: the twin's value, and document 01's predicate with no other number meeting it. D(k) itself bears k.
+-- r is the bearing of v: the twin's value, and the predicate of 2.6 with no other number meeting it. D(k) itself bears k.
 pub record Bears (v : Vector) (r : ℕ) : Type 0 where
   pub value : r ≡ bearingOf v
   pub low : r < 4096

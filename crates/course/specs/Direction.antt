@@ -1,4 +1,4 @@
--- Document 01's D(k), and what it says of the whole table. Assumes nothing.
+-- Clauses 2.2, 2.4, 2.5, 18.4: D(k), and what holds of the whole table. Assumes nothing.
 use mathlib.Core.Path.{_≡_}
 use Prim.Native.Nat.{ℕ, zero, suc, _+_, _-_, _/_, _%_, _≤_, _<_}
 use lib.IntN.{pos, negℤ}
@@ -7,7 +7,7 @@ use Rattle.course.specs.declared.Vector.{Vector}
 use Rattle.course.specs.Table.{sineOf}
 use Rattle.course.specs.Vectors.{plain, cross, squaredLength}
 
--- "each further 1,024 maps (n, e) to (−e, n)"
+-- 2.4: a quarter on, a direction is turned
 unfoldable pub quarter : Vector → Vector
 quarter v = record { north = negℤ (v .east); east = v .north }
 
@@ -15,20 +15,19 @@ unfoldable pub turned : ℕ → Vector → Vector
 turned zero v = v
 turned (suc q) v = quarter (turned q v)
 
--- "D(k) is (S[1024−k], S[k]) for k = 0..1023", and so on for every k: it goes round by itself
+-- 2.4: by the quarter that k lies in, so of every k
 unfoldable pub directionOf : ℕ → Vector
 directionOf k = turned (k / 1024) (plain (sineOf (1024 - k % 1024)) (sineOf (k % 1024)))
 
--- "S never falls"
+-- 2.5: no entry is less than the one before it
 abbrev pub NeverFalls : Type 0
 NeverFalls = (k : ℕ) → k < 1024 → sineOf k ≤ sineOf (suc k)
 
--- "cross(D(k), D(k+1)) lies in 388,000..435,500", of every k
+-- 2.5: how far a direction lies from the next one, of every k
 abbrev pub Apart : Type 0
 Apart = (k : ℕ) → pos 388000 ≤ℤ cross (directionOf k) (directionOf (suc k))
 
--- "S[0] = 0, S[512] = 11,585, S[1024] = 16,384", and what is "proved once over the whole table", the squared length of D(k) "within 23,171 of
--- 2^28" among it
+-- 2.2 and 2.5: the entries that are known, and what one computed test says of the whole table
 pub record TableFacts : Type 0 where
   pub first : sineOf 0 ≡ 0
   pub middle : sineOf 512 ≡ 11585

@@ -1,4 +1,4 @@
--- Document 01: "off(m, k) is m·D(k)/16,384, each part to the nearest whole, halves away from zero." Assumes nothing.
+-- Clause 2.8: so far along a direction, in whole decimetres. Assumes nothing.
 use Prim.Native.Nat.{ℕ}
 use lib.IntN.{pos, _*ℤ_}
 use Rattle.integers.specs.Round.{nearestOf}

@@ -1,4 +1,4 @@
--- Document 01: S[k], k = 0..1024, is the whole number nearest 16,384 times the sine of k/4096 of a circle. Assumes nothing.
+-- Clauses 2.1, 18.4: the sine table, from a series in exact whole numbers. Assumes nothing.
 use mathlib.Core.Path.{_≡_}
 use mathlib.Core.List.{List}
 use Prim.Native.Nat.{ℕ, zero, suc, _+_, _-_, _*_, _/_, _^_, _≤_}

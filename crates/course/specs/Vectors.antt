@@ -1,4 +1,4 @@
--- Level vectors. Assumes nothing.
+-- Clause 2.5: level vectors. Assumes nothing.
 use Prim.Native.Nat.{ℕ}
 use lib.IntN.{ℤ, pos, _+ℤ_, _-ℤ_, _*ℤ_}
 use Rattle.integers.specs.Bounds.{Within}
@@ -8,7 +8,7 @@ use Rattle.course.specs.declared.Vector.{Vector}
 abbrev pub plain : ℕ → ℕ → Vector
 plain a b = record { north = pos a; east = pos b }
 
--- document 01: cross((a,b),(c,d)) = a·d − b·c
+-- 2.5: positive where the second vector lies to the right of the first
 unfoldable pub cross : Vector → Vector → ℤ
 cross u v = u .north *ℤ v .east -ℤ u .east *ℤ v .north
 

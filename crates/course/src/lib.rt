@@ -1,4 +1,4 @@
-// Courses, in 1/4096 of a circle clockwise from north: the sine table, directions, bearings and offsets (document 01, "The course table").
+// Courses, in 1/4096 of a circle clockwise from north: the sine table, directions, bearings and offsets (docs/RULES.md, section 2).
 ghost use mathlib.Core.Path.{_≡_};
 ghost use Prim.Native.Nat.{_-_, _*_, _/_, _≤_, _<_, _^_};
 ghost use lib.Dec.{leb};
@@ -17,7 +17,7 @@ pub struct Vector {
     pub east: i64,
 }
 
-// S: the whole number nearest 16,384 times the sine of k/4096 of a circle.
+// S (2.1): sines in units of 1/16,384, to the nearest unit.
 const S: [u16; 1025] = [
     0,
     25,

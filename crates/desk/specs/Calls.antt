@@ -1,5 +1,5 @@
--- The desk's calls for C: what each answers, and what the caller's memory holds afterwards. A note is a copy of its bytes and their number; a check
--- is the refusal of a load and its place; a count is the number of notes. Assumes nothing.
+-- Clauses 17.8, 17.13, 17.14: the desk's calls for C: what each answers, and what the caller's memory holds afterwards. A note is a copy of its
+-- bytes and their number; a check is the refusal of a load and its place; a count is the number of notes. Assumes nothing.
 use mathlib.Core.Bool.{Bool}
 use mathlib.Core.List.{List, [], _∷_}
 use Prim.Native.Nat.{ℕ}
@@ -27,7 +27,7 @@ unfoldable pub wordsAnswer : Bool → List ℕ → List ℕ → List ℕ
 wordsAnswer fits words answer = choose fits (over words answer) answer
 
 -- ---- a note
--- "128 note: 1..32 bytes"
+-- 4.4: the longest note
 abbrev pub mostNote : ℕ
 mostNote = noteRow .high
 

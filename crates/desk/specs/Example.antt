@@ -1,5 +1,5 @@
--- The desk's calls in numbers: which slices are long enough, and what is in them afterwards. It holds the definitions: one that is changed together
--- with the code fails here. Assumes nothing.
+-- Holds clauses 17.5, 17.8, 17.13, 17.14: the desk's calls in numbers: which slices are long enough, and what is in them afterwards. A
+-- definition that is changed together with the code fails here. Assumes nothing.
 use mathlib.Core.Path.{_≡_}
 use mathlib.Core.Bool.{true, false}
 use mathlib.Core.List.{List, [], _∷_}
@@ -19,14 +19,14 @@ abbrev pub answer : List ℕ
 answer = 8 ∷ 9 ∷ 10 ∷ []
 
 pub record NoteExample : Type 0 where
-  -- "128 note: 1..32 bytes"
+  -- 4.4: room for the longest note, and one byte less
   pub enough : noteFits 32 1 ≡ true
   pub narrow : noteFits 31 1 ≡ false
   pub unanswered : noteFits 32 0 ≡ false
   pub accepted : callResult true 0 ≡ 0
   pub shown : noteBuffer true note buffer ≡ 65 ∷ 66 ∷ 3 ∷ []
   pub counted : noteAnswer true note answer ≡ 2 ∷ 9 ∷ 10 ∷ []
-  -- too short: 100, "and nothing at all is written"
+  -- 17.5: too short, so 100 and nothing written
   pub refused : callResult false 0 ≡ 100
   pub kept : (noteBuffer false note buffer ≡ buffer) × (noteAnswer false note answer ≡ answer)
 

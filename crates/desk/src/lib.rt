@@ -1,5 +1,4 @@
-// The desk's check of a plan file and the notes of one, for C (document 01: "The desk's C program gets the refusal number of a file for a reader
-// version, 0 if it loads"). The header is include/farnkuppel.h.
+// The desk's check of a plan file and the notes of one, for C (docs/RULES.md, 5.3 to 5.6 and section 17). The header is include/farnkuppel.h.
 ghost use mathlib.Core.Path.{_≡_};
 ghost use mathlib.Core.List.{[], _∷_};
 ghost use Prim.Native.Nat.{_≤_};

@@ -1,4 +1,4 @@
--- Document 01: the shortest of a leg's cases, and the tests of refusals 12 and 17. Assumes nothing.
+-- Clauses 7.12, 7.17, 12.2, 12.7, 12.12: the shortest of a leg's cases, and the tests of refusals 12 and 17. Assumes nothing.
 use mathlib.Core.Path.{_≡_}
 use mathlib.Core.Logic.{_↔_}
 use mathlib.Core.Bool.{Bool, true, false, _||_}
@@ -23,7 +23,7 @@ casePath ends case =
     let θ = straightCourse case (ends .radius) s (circles .v) in
     choose (caseExists ends case) (Shortest (pathOf ends case circles s θ)) Missing
 
--- "Shortest wins, earliest on a tie."
+-- 12.7: the cases in their order, so that of equal ones the first stays
 unfoldable pub shorterOf : Found → Found → Found
 shorterOf a Missing = a
 shorterOf Missing (Shortest later) = Shortest later
@@ -32,11 +32,11 @@ shorterOf (Shortest earlier) (Shortest later) = choose (leb (earlier .length) (l
 unfoldable pub shortestOf : Ends → Found
 shortestOf ends = shorterOf (shorterOf (shorterOf (casePath ends 1) (casePath ends 2)) (casePath ends 3)) (casePath ends 4)
 
--- refusal 17 is "no Dubins case exists for a leg"
+-- 7.17 refuses a leg that has none
 unfoldable pub hasPathOf : Ends → Bool
 hasPathOf ends = caseExists ends 1 || caseExists ends 2 || caseExists ends 3 || caseExists ends 4
 
--- refusal 12 is "squared distance in north and east under 9·R²"
+-- 7.12 refuses ends nearer than three radii
 unfoldable pub farApart : Point → Point → ℕ → Bool
 farApart a b R = leb (9 * R * R) (squareOf (minus (levelOf b) (levelOf a)))
 
@@ -61,11 +61,11 @@ pub record Chosen (ends : Ends) (r : Found) : Type 0 where
   pub found : hasPathOf ends ≡ true → (p : Path) × (r ≡ Shortest p)
   pub missing : hasPathOf ends ≡ false → r ≡ Missing
 
--- "RSR and LSL exist when v ≠ 0"
+-- 12.3: unless v is zero
 abbrev pub OuterWhen : Ends → ℕ → Type 0
 OuterWhen ends case = (caseExists ends case ≡ true) ↔ (circlesOf ends case .v ≡ plain 0 0 → ⊥)
 
--- "RSL and LSR exist when v·v ≥ 4R²"
+-- 12.4: from two radii on
 abbrev pub InnerWhen : Ends → ℕ → Type 0
 InnerWhen ends case = (caseExists ends case ≡ true) ↔ (4 * ends .radius * ends .radius ≤ squareOf (circlesOf ends case .v))
 

@@ -1,5 +1,6 @@
--- Legs worked out by hand, one that each of RSL, LSR and LSL wins; document 01 has one for RSR. R 100, from (0,0) course 0: a quarter turn,
--- straight west or east, then a quarter turn back to north, of LSL half a turn to east. They hold every part of a case. Assumes nothing.
+-- Holds clauses 12.1 to 12.8: legs worked out by hand, one that each of RSL, LSR and LSL wins; the starred examples have one for RSR. R 100,
+-- from (0,0) course 0: a quarter turn, straight west or east, then a quarter turn back to north, of LSL half a turn to east. They hold every
+-- part of a case. Assumes nothing.
 use mathlib.Core.Path.{_≡_}
 use Prim.Native.Nat.{ℕ}
 use lib.IntN.{ℤ, pos, negsuc}

@@ -1,4 +1,4 @@
--- What a leg's ends may be, and the bounds of its path. Assumes nothing.
+-- No clause: what a leg's ends may be, and the bounds of its path, for contracts below a plan. Assumes nothing.
 use Prim.Native.Nat.{_≤_, _<_}
 use Rattle.course.specs.Vectors.{Near}
 use Rattle.plane.specs.Area.{InArea}

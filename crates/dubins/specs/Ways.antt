@@ -1,4 +1,4 @@
--- What `shortest_path` works with, tied to Cases and Choice: both centres at an end, and a path without z1 and z2. For proofs alone:
+-- No clause: what `shortest_path` works with, tied to Cases and Choice: both centres at an end, and a path without z1 and z2. For proofs alone:
 -- no contract of a public function cites it. Assumes nothing.
 use mathlib.Core.Path.{_≡_}
 use mathlib.Core.Bool.{true, false}

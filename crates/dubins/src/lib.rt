@@ -1,4 +1,4 @@
-// The four cases of a Dubins leg and the shortest of them (document 01, "Dubins").
+// The four cases of a Dubins leg and the shortest of them (docs/RULES.md, section 12).
 use course::Vector;
 use plane::Point;
 ghost use mathlib.Core.Path.{_≡_};

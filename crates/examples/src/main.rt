@@ -1,5 +1,5 @@
-// Runs document 01's checked examples through the compiled code, a line for each, and then flies what stands on standard input: blocks of states
-// and of fixes, and a line for each fix. Numbers are big-endian.
+// Runs the checked examples (docs/RULES.md, section 19) through the compiled code, a line for each, and then flies what stands on standard
+// input: blocks of states and of fixes, and a line for each fix. Numbers are big-endian.
 //   S  a state: serial u32, mode u8 (0 lines, 1 fillets, 2 Dubins), radius u16, count u16, k u8 and k points of three i32,
 //      m u8 and m courses u16, index u16, phase u8, finished u8. Places that aren't listed are zero.
 //   F  a fix for the state before it: the named serial u32, then north, east and down as the bits of an f32.

@@ -1,4 +1,4 @@
-// Plan files of document 01's checked examples, each with one number left to be filled in.
+// Plan files of the checked examples, each with one number left to be filled in.
 
 // Fillets from (0,0) over (1000,0) to (1000,1000), and where the radius stands.
 pub const FILLETS_FILE: [u8; 57] = [

@@ -1,5 +1,5 @@
--- Of a turn up to 1,792, with (C, S) = D(τ): S ≥ 0, 16,384 + C ≥ 1,247, the tangent length is the floor that document 01 asks for, and of a
--- radius up to 10,000 at most 50,280. By one test over the quarter in which C is negative. Assumes nothing.
+-- Of a turn up to 1,792, with (C, S) = D(τ): S ≥ 0, 16,384 + C ≥ 1,247, the tangent length is the floor of 11.2, and of a radius up to 10,000 at
+-- most 50,280. By one test over the quarter in which C is negative. Assumes nothing.
 use mathlib.Core.Path.{_≡_, refl, sym, ap, _∙_}
 use mathlib.Core.Bool.{Bool, _&&_}
 use Prim.Native.Nat.{ℕ, _+_, _*_, _-_, _/_, _%_, _≤_, _<_}

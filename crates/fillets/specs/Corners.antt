@@ -1,4 +1,4 @@
--- Document 01, "Fillets": the turn at a corner, its tangent length, and its arc. Assumes nothing.
+-- Clauses 11.2, 11.4 to 11.6: the turn at a corner, its tangent length, and its arc. Assumes nothing.
 use mathlib.Core.Path.{_≡_}
 use mathlib.Core.Bool.{Bool, false}
 use Prim.Native.Nat.{ℕ, _+_, _-_, _*_, _/_, _≤_}
@@ -17,7 +17,7 @@ use Rattle.plane.specs.Area.{levelOf}
 use Rattle.plane.specs.Level.{plus, minus, levelLegOf, sidewaysOf}
 use Rattle.fillets.specs.declared.Corner.{Corner}
 
--- "Turn τ is the lesser way round between the leg bearings"
+-- 11.2: of the two ways round, the shorter
 unfoldable pub lesserTurn : ℕ → ℕ → ℕ
 lesserTurn j k = choose (leb (wrapOf (pos k -ℤ pos j)) 2048) (wrapOf (pos k -ℤ pos j)) (4096 - wrapOf (pos k -ℤ pos j))
 
@@ -27,7 +27,7 @@ turnBetween a b = lesserTurn (bearingOf a) (bearingOf b)
 unfoldable pub cornerTurn : Point → Point → Point → ℕ
 cornerTurn before point after = turnBetween (levelLegOf before point) (levelLegOf point after)
 
--- "(C, S) = D(τ); tangent length T = floor(R·S / (16,384 + C))". It is asked for τ up to 1,792 only, where S ≥ 0 and 16,384 + C > 0.
+-- 11.2: T. It is asked for τ up to 1,792 only, where S ≥ 0 and 16,384 + C > 0.
 unfoldable pub tangentOf : ℕ → ℕ → ℕ
 tangentOf R τ = R * natAbs (directionOf τ .east) / natAbs (pos 16384 +ℤ directionOf τ .north)
 
@@ -38,11 +38,11 @@ pub record IsTangent (R τ T : ℕ) : Type 0 where
   pub low : (pos T *ℤ (pos 16384 +ℤ directionOf τ .north)) ≤ℤ (pos R *ℤ directionOf τ .east)
   pub high : (pos R *ℤ directionOf τ .east) <ℤ (pos (T + 1) *ℤ (pos 16384 +ℤ directionOf τ .north))
 
--- "Sense +1 when cross(a, b) ≥ 0, else −1": whether it is +1
+-- 11.5: whether the sense is +1
 unfoldable pub rightOf : Vector → Vector → Bool
 rightOf a b = leZ (pos 0) (cross a b)
 
--- "z1 = point − off(T, bearing a), z2 = point + off(T, bearing b)", "Centre = z1 + off(R, bearing a + 1024·sense)", for legs that bear j and k
+-- 11.4: z1 and z2; 11.6: the centre; for legs that bear j and k
 unfoldable pub roundedOf : Vector → ℕ → ℕ → Bool → ℕ → ℕ → Corner
 roundedOf point j k right R T =
     record {

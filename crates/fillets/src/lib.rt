@@ -1,4 +1,4 @@
-// Corners rounded by a fillet (document 01, "Fillets").
+// Corners rounded by a fillet (docs/RULES.md, section 11).
 use course::Vector;
 use plane::Point;
 ghost use mathlib.Core.Path.{_≡_};

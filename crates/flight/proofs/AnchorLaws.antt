@@ -1,4 +1,4 @@
--- The words of demand 3 and of two flights mean what they have to. Assumes nothing.
+-- The words of 15.8 to 15.16 and of two flights mean what they have to. Assumes nothing.
 use mathlib.Core.Path.{_≡_, refl, sym, ap, subst, _∙_}
 use mathlib.Core.Bool.{true, false}
 use mathlib.Core.List.{List, [], _∷_, _++_}
@@ -112,7 +112,7 @@ unfolding run lastOf
 last-plain s [] x a = a .0
 last-plain s (y ∷ ys) x a = last-plain (stepBy s y .state) ys x (a .1)
 
--- ---- demand 3 by its own words, and without them
+-- ---- these clauses by their own words, and without them
 is-later : (f : List ℕ) → 3 < versionOf f → headerOf f ≡ good done → fills (recordsOf f) ≡ true → IsLater f
 is-later f v h w = record { version = v; header = h; records = w }
 

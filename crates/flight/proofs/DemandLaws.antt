@@ -1,4 +1,4 @@
--- Demand 3, the whole of it. Assumes nothing.
+-- 15.8 to 15.16, all of them. Assumes nothing.
 use mathlib.Core.Path.{_≡_}
 use mathlib.Core.List.{List}
 use Prim.Native.Nat.{ℕ}

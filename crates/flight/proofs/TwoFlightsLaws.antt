@@ -1,4 +1,4 @@
--- Two calls of `fly`, from demand 3. Assumes nothing.
+-- Two calls of `fly`, from `demand`. Assumes nothing.
 use mathlib.Core.Path.{_≡_, refl, sym, ap, _∙_}
 use mathlib.Core.Bool.{true, false}
 use mathlib.Core.List.{List}

@@ -1,5 +1,6 @@
--- What the words of demand 3 and of two flights have to mean. Each law here fails where one of their definitions says less: a field or a case
--- that is dropped, a thing that is compared with itself, a hypothesis that nothing meets. Assumes nothing.
+-- Holds clauses 15.8 to 15.16, 17.12: what the words of these clauses and of two flights have to mean. Each law here fails where one of their
+-- definitions says less: a field or a case that is dropped, a thing that is compared with itself, a hypothesis that nothing meets. Assumes
+-- nothing.
 use mathlib.Core.Path.{_≡_}
 use mathlib.Core.Bool.{true, false}
 use mathlib.Core.List.{List, [], _∷_}
@@ -28,7 +29,7 @@ use Rattle.flight.specs.Flight.{lastOf}
 use Rattle.flight.specs.TwoFlights.{flownWith, answersWith, commandsWith, OlderFlights}
 use Rattle.flight.specs.Witnesses.{ClaimHolds, claims}
 
--- demand 3 with none of its own words: readers by their numbers, loads and runs as the contracts have them, the cut file by its bytes
+-- 15.8 to 15.16 with none of their own words: readers by their numbers, loads and runs as the contracts have them, the cut file by its bytes
 pub record Outright : Type 0 where
   pub older : (f : List ℕ) (s : State) → loadOf 3 f ≡ good s → (r : ℕ) → 1 ≤ r → r ≤ 2
       → ((holdsNewer r (recordsOf f) ≡ true) × (loadedOf (loadOf r f) .refusal ≡ 7)) ⊎ ((holdsNewer r (recordsOf f) ≡ false) × (loadOf r f ≡ good s))

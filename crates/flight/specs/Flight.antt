@@ -1,4 +1,4 @@
--- A run that executes: fixes in plain lists, and the words and numbers of each answer in the caller's buffers. Assumes nothing.
+-- Clause 17.12: a run that executes: fixes in plain lists, and the words and numbers of each answer in the caller's buffers. Assumes nothing.
 use mathlib.Core.Bool.{Bool}
 use mathlib.Core.List.{List, [], _∷_, _++_}
 use Prim.Native.Nat.{ℕ, zero, suc, _+_, _*_}

@@ -1,5 +1,4 @@
--- A run over a list of fixes: "the first fix gets the loaded state, any other what the fix before it returned, and nothing else changes it".
--- Assumes nothing.
+-- Clauses 15.7, 15.10, 15.11, 15.15, 15.16: a run over a list of fixes, each from the state before it. Assumes nothing.
 use mathlib.Core.Path.{_≡_}
 use mathlib.Core.List.{List, [], _∷_}
 use Prim.Native.Nat.{ℕ}
@@ -30,7 +29,7 @@ pub data Chain : State → List Named → List Stepped → Type 0 where
   none : (s : State) → Chain s [] []
   next : (s : State) (x : Named) (xs : List Named) (os : List Stepped) → Chain (stepBy s x .state) xs os → Chain s (x ∷ xs) (stepBy s x ∷ os)
 
--- "alike at each fix in refusal, place, command, heading, index, phase, finished and state returned"
+-- 15.10: equal in all that a fix answers and gives back
 pub record Alike (a b : Stepped) : Type 0 where
   pub refusal : a .answer .refusal ≡ b .answer .refusal
   pub place : a .answer .place ≡ b .answer .place

@@ -1,5 +1,4 @@
--- Demand 3's first half about two calls of `fly`: one file, the same lists and buffers, a reader of version one or two and the reader of version
--- three. Assumes nothing.
+-- Clause 17.12: 15.8 to 15.10 about two calls of `fly`: one file, the same lists and buffers, an older reader and the newest. Assumes nothing.
 use mathlib.Core.Path.{_≡_}
 use mathlib.Core.Bool.{true, false}
 use mathlib.Core.List.{List}

@@ -1,4 +1,4 @@
--- Files in bytes that demand 3 speaks of, worked out by hand from document 01, "The plan file": what its hypotheses ask for, there is. One list
+-- Holds clauses 15.8 to 15.13: files in bytes, worked out by hand from sections 3 and 4: what the clauses take for granted, there is. One list
 -- of claims. Assumes nothing.
 use mathlib.Core.Path.{_≡_}
 use mathlib.Core.Bool.{false}
@@ -21,7 +21,7 @@ use Rattle.wpl.specs.Write.{writeOf}
 use Rattle.flight.specs.Demand.{Loads, IsLater, cutOut}
 
 -- ---- the files, a line for the header and for each record
--- document 01's listing
+-- lines, serial 7
 abbrev pub linesFile : List ℕ
 linesFile =
     0x57 ∷ 0x50 ∷ 0x4C ∷ 0x00 ∷ 0x01 ∷ 0x00 ∷ 0x00 ∷ 0x00 ∷ 0x07 ∷ 0x00 ∷ 0x2A

@@ -107,7 +107,7 @@ pub fn run(
 }
 
 // The fixes of the lists from the state that a reader loads from a file. Refused, the state is the empty one and nothing is written.
-// It keeps demand 3, whatever the file.
+// It keeps 15.8 to 15.16 (docs/RULES.md), whatever the file.
 pub fn fly(
     file: &[u8],
     reader: u32,

@@ -1,5 +1,4 @@
--- Document 01: "A command is a line (start, direction) or a circle (centre, radius, sense +1 for clockwise), in f32 metres: the whole number
--- divided by 10, rounded once. A Dubins direction is D/16,384, exact, down 0." Assumes nothing.
+-- Clauses 9.4, 9.5, 10.1, 11.5, 11.6, 15.14, 18.5: a line or a circle to follow, in f32 metres. Assumes nothing.
 use mathlib.Core.Bool.{Bool, true, false}
 use Prim.Native.Nat.{ℕ}
 use lib.IntN.{ℤ, pos, negsuc}
@@ -26,11 +25,11 @@ placeMetres v down = record { north = metresOf (v .north); east = metresOf (v .e
 unfoldable pub legMetres : Leg → Metres
 legMetres l = record { north = metresOf (l .north); east = metresOf (l .east); down = metresOf (l .down) }
 
--- "the line from point i−1 with the leg as direction"
+-- 10.1: from a along the leg to b
 unfoldable pub lineCommand : Point → Point → Command
 lineCommand a b = Line (placeMetres (levelOf a) (a .down)) (legMetres (legOf a b))
 
--- "line from z1 along D(θ)"
+-- 9.5: from z1 along D(θ), level
 unfoldable pub courseCommand : Vector → ℤ → ℕ → Command
 courseCommand z1 down θ =
     Line (placeMetres z1 down)
@@ -39,7 +38,7 @@ courseCommand z1 down θ =
 unfoldable pub circleCommand : Vector → ℤ → ℕ → Bool → Command
 circleCommand centre down R right = Circle (placeMetres centre down) (metresOf (pos R)) (senseOf right)
 
--- ---- "Commands are equal bit for bit": every number of a command is a finite f32 and not −0.0
+-- ---- 15.14: every number of a command is a finite f32 and not −0.0
 pub record PlainMetres (m : Metres) : Type 0 where
   pub north : Plain (m .north)
   pub east : Plain (m .east)

@@ -1,4 +1,5 @@
--- Document 01, "One fix", and request 4, the last leg: what each phase commands, its heading, and what ends it. p is the position. Assumes nothing.
+-- Clauses 10.1, 10.4, 11.1, 11.6, 11.7, 12.9, 12.11, 12.12, 13.2, 13.3, 14.3: what each phase commands, its heading, and what ends it. p is the
+-- position. Assumes nothing.
 use mathlib.Core.Bool.{Bool}
 use Prim.Native.Nat.{ℕ}
 use lib.Dec.{eqb, ltb}
@@ -24,7 +25,7 @@ use Rattle.guidance.specs.Commands.{lineCommand, courseCommand, circleCo
 unfoldable pub fromOf : Vector → Point → Vector
 fromOf place p = minus (levelOf p) place
 
--- "Line with level direction q", q being "the whole-number leg"
+-- 14.3: along the whole leg
 unfoldable pub legHeading : Point → Point → Point → ℕ
 legHeading a b p = lineHeading (levelLegOf a b) (fromOf (levelOf a) p)
 
@@ -32,7 +33,7 @@ legHeading a b p = lineHeading (levelLegOf a b) (fromOf (levelOf a) p)
 unfoldable pub legGuide : Point → Point → Bool → Point → Guidance
 legGuide a b passed p = record { command = lineCommand a b; heading = legHeading a b p; passed = passed }
 
--- Lines: "the line from point i−1 with the leg as direction", until the half-plane of point i. a, b, c are the points i−1, i, i+1.
+-- 10.1 and 10.2: the line to point i, until its half-plane. a, b, c are the points i−1, i, i+1.
 unfoldable pub lineGuide : Point → Point → Point → Point → Guidance
 lineGuide a b c p = legGuide a b (metOf (legOf b p) (legOf a b) (legOf b c)) p
 
@@ -41,23 +42,23 @@ unfoldable pub circleGuide : Vector → Point → ℕ → Bool → Bool → Poin
 circleGuide centre height R right passed p =
     record { command = circleCommand centre (height .down) R right; heading = circleHeading (fromOf centre p) R right; passed = passed }
 
--- Fillets: "(p−z)·leg ≥ 0"
+-- 11.7: at z or beyond it along the leg, level
 unfoldable pub pastOf : Vector → Vector → Point → Bool
 pastOf z leg p = leZ (pos 0) (dotOf (fromOf z p) leg)
 
--- "phase line commands the line that lines mode would", "until (p−z1)·a ≥ 0"
+-- 11.1 and 11.7: the line, until z1
 unfoldable pub filletLine : Point → Point → Corner → Point → Guidance
 filletLine a b corner p = legGuide a b (pastOf (corner .z1) (levelLegOf a b) p) p
 
--- "then circle until (p−z2)·b ≥ 0", "down of the point"
+-- 11.6 and 11.7: the circle at the point's down, until z2
 unfoldable pub filletCircle : Point → Point → ℕ → Corner → Point → Guidance
 filletCircle b c R corner p = circleGuide (corner .centre) b R (corner .right) (pastOf (corner .z2) (levelLegOf b c) p) p
 
--- phases "fillets 1 line and 2 circle"
+-- 8.4: phase 1 is the line, 2 the circle
 unfoldable pub filletGuide : Point → Point → Point → ℕ → ℕ → Point → Guidance
 filletGuide a b c R phase p = choose (eqb phase 1) (filletLine a b (cornerOf a b c R) p) (filletCircle b c R (cornerOf a b c R) p)
 
--- Request 4: the last leg, from a to b, is over where (p − b)·(b − a) is at least 0: level for fillets, in three dimensions for lines
+-- 13.3: the last leg, from a to b, is over at b and beyond it: level for fillets, in three dimensions for lines
 unfoldable pub legEnded : Bool → Point → Point → Point → Bool
 legEnded level a b p = choose level (pastOf (levelOf b) (levelLegOf a b) p) (leZ (pos 0) (dot3Of (legOf b p) (legOf a b)))
 
@@ -65,22 +66,22 @@ legEnded level a b p = choose level (pastOf (levelOf b) (levelLegOf a b) p) (leZ
 unfoldable pub lastLegGuide : Bool → Point → Point → Point → Guidance
 lastLegGuide level a b p = legGuide a b (legEnded level a b p) p
 
--- Dubins: "(p−z)·D(k)", at least 0 or at most 0
+-- 12.9: at z or beyond it along D(k), and at z or short of it
 unfoldable pub reachedOf : Vector → ℕ → Point → Bool
 reachedOf z k p = leZ (pos 0) (dotOf (fromOf z p) (directionOf k))
 
 unfoldable pub shortOf : Vector → ℕ → Point → Bool
 shortOf z k p = leZ (dotOf (fromOf z p) (directionOf k)) (pos 0)
 
--- "Phases by (p−z1)·D(θ): 1 until ≤ 0, 2 until ≥ 0"
+-- 12.9: what ends phases 1 and 2
 unfoldable pub startPassed : Path → ℕ → Point → Bool
 startPassed path phase p = choose (eqb phase 1) (shortOf (path .z1) (path .course) p) (reachedOf (path .z1) (path .course) p)
 
--- "4 until (p−point i)·D(χe) ≤ 0; 5 until ≥ 0"
+-- 12.9: what ends phases 4 and 5
 unfoldable pub endPassed : Point → ℕ → ℕ → Point → Bool
 endPassed end χe phase p = choose (eqb phase 4) (shortOf (levelOf end) χe p) (reachedOf (levelOf end) χe p)
 
--- "3 (line from z1 along D(θ)) until (p−z2)·D(θ) ≥ 0"; "For the heading law q is .. D(θ)"
+-- 12.9: phase 3; 14.3: its heading is by D(θ)
 unfoldable pub straightGuide : Point → Path → Point → Guidance
 straightGuide start path p =
     record {
@@ -89,7 +90,7 @@ straightGuide start path p =
       passed = reachedOf (path .z2) (path .course) p;
     }
 
--- "Phases 1, 2 command the start circle, 4, 5 the end circle. Down: start point's for start circle and line, end point's after."
+-- 12.9: which circle; 12.11: whose down
 unfoldable pub dubinsGuide : Ends → Path → ℕ → Point → Guidance
 dubinsGuide ends path phase p =
     choose (eqb phase 3) (straightGuide (ends .start) path p)

@@ -1,5 +1,4 @@
-// What to follow at a fix: a line or a circle, the heading for it, and whether the phase is over (document 01, "One fix"; request 4, the last
-// leg).
+// What to follow at a fix: a line or a circle, the heading for it, and whether the phase is over (docs/RULES.md, sections 9 to 14).
 use course::Vector;
 use dubins::Ends;
 use dubins::Path;

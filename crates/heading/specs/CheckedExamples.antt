@@ -1,5 +1,5 @@
--- Headings worked out by hand, document 01's checked examples among them. They hold the definitions to the paper, whatever the code does. Assumes
--- nothing.
+-- Holds clauses 14.1, 14.2: headings worked out by hand, those of 19.2 among them. They hold the definitions to the rules, whatever the code
+-- does. Assumes nothing.
 use mathlib.Core.Path.{_≡_}
 use mathlib.Core.Bool.{true, false}
 use lib.IntN.{pos, negsuc}
@@ -7,13 +7,13 @@ use Rattle.course.specs.Vectors.{plain}
 use Rattle.heading.specs.Heading.{lineHeading, circleHeading}
 
 pub record LineExamples : Type 0 where
-  -- "leg (1000,0) from (0,0), fix (0,500): 3712"
+  -- on the leg (1000, 0) from (0, 0), at (0, 500)
   pub right : lineHeading (plain 1000 0) (plain 0 500) ≡ 3712
   -- fix (0,−1): b is −2, and 768·b/1024 is −1, toward zero
   pub left : lineHeading (plain 1000 0) (record { north = pos 0; east = negsuc 0 }) ≡ 1
 
 pub record CircleExamples : Type 0 where
-  -- "Circle R 1000, sense +1: 1024 at (1000,0), 159 at the centre"
+  -- on a circle of R 1000 to the right, at (1000, 0) of the centre, and at the centre
   pub round : circleHeading (plain 1000 0) 1000 true ≡ 1024
   pub centre : circleHeading (plain 0 0) 1000 true ≡ 159
   -- and at (1000,0) with the other sense

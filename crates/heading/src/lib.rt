@@ -1,4 +1,4 @@
-// The two heading laws (document 01, "Heading").
+// The two heading laws (docs/RULES.md, section 14).
 use course::Vector;
 ghost use mathlib.Core.Path.{_≡_};
 ghost use Prim.Native.Nat.{_≤_, _<_};

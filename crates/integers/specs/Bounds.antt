@@ -1,4 +1,4 @@
--- A bound of a signed number. Assumes nothing.
+-- No clause: a bound of a signed number. Assumes nothing.
 use Prim.Native.Nat.{ℕ, _≤_}
 use lib.IntN.{ℤ, natAbs}
 

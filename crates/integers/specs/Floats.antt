@@ -1,4 +1,4 @@
--- The bits of a float that is at least 0, and 0 of any other. Assumes nothing.
+-- No clause: the bits of a float that is at least 0, and 0 of any other. Assumes nothing.
 use Prim.Native.Nat.{ℕ}
 use lib.Ieee.{Float, binary64, le, ofBits, toBits}
 use Rattle.conditions.specs.Choose.{choose}

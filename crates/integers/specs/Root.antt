@@ -1,9 +1,9 @@
--- Document 01: "root is the floor of the square root." Assumes nothing.
+-- Clause 1.8: the root of a whole number. Assumes nothing.
 use Prim.Native.Nat.{ℕ, zero, suc, _+_, _*_, _/_, _≤_, _<_}
 use lib.Dec.{leb}
 use Rattle.conditions.specs.Choose.{choose}
 
--- r is the floor of the square root of n: what a reader has to believe, and what `root` promises of its answer. Nothing else than rootOf n is
+-- 1.8: r² ≤ n < (r + 1)². What a reader has to believe, and what `root` promises of its answer. Nothing else than rootOf n is
 -- it: the law root-only of proofs/RootLaws, by which the code's answer is known.
 pub record IsRoot (n r : ℕ) : Type 0 where
   pub low : r * r ≤ n

@@ -1,4 +1,4 @@
--- The rounding of document 01's off: "each part to the nearest whole, halves away from zero". Assumes nothing.
+-- Clauses 1.7, 2.8: to the nearest whole number. Assumes nothing.
 use mathlib.Core.Path.{_≡_}
 use Prim.Native.Nat.{suc, _+_, _/_}
 use lib.IntN.{ℤ, pos, negsuc, negℤ}

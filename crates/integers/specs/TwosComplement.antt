@@ -1,4 +1,4 @@
--- Two's complement in 32 bits, both ways. Each undoes the other (proofs/TwosComplementLaws). Assumes nothing.
+-- Clause 3.1: two's complement in 32 bits, both ways. Each undoes the other (proofs/TwosComplementLaws). Assumes nothing.
 use Prim.Native.Nat.{ℕ}
 use lib.IntN.{ℤ}
 use mir.Syntax.{w32}

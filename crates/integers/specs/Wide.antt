@@ -1,4 +1,4 @@
--- Products below 2^126, by digits in base 2^42. Assumes nothing.
+-- No clause: products below 2^126, by digits in base 2^42, which 10.3 needs. Assumes nothing.
 use mathlib.Core.Path.{_≡_}
 use Prim.Native.Nat.{ℕ, _+_, _*_, _<_}
 use Rattle.integers.specs.declared.Wide.{Wide}

@@ -1,4 +1,4 @@
--- Courses and turns are whole 1/4096 of a circle: "Modulo 4096". Assumes nothing.
+-- Clause 1.2: courses go round after 4,096 units. Assumes nothing.
 use Prim.Native.Nat.{ℕ, _-_, _%_}
 use lib.IntN.{ℤ, pos, negsuc}
 

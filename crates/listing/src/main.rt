@@ -1,4 +1,4 @@
-// Lists the plan on standard input as the newest reader loads it, or says why it is refused (document 01, "Checked examples"). It takes no
+// Lists the plan on standard input as the newest reader loads it, or says why it is refused (docs/RULES.md, section 16). It takes no
 // arguments; those, and input that can't be read, are trouble: one line on standard error and nothing else.
 
 // How many arguments there are, the program's own name.

@@ -1,4 +1,4 @@
--- What fixes of request 4's examples are answered: the prover computes it. Assumes nothing.
+-- What the fixes of the examples of section 13 are answered: the prover computes it. Assumes nothing.
 use mathlib.Core.Path.{refl}
 use lib.Ieee.{ofBits}
 use Rattle.conditions.specs.Choose.{choose}

@@ -1,4 +1,4 @@
--- The examples of request 4 hold; those of `Finishes` and `Flies` are proved from these. Assumes nothing.
+-- The examples of section 13 hold; those of `Finishes` and `Flies` are proved from these. Assumes nothing.
 use mathlib.Core.Path.{_≡_, refl}
 use mathlib.Core.Bool.{true, false}
 use lib.Ieee.{ofBits}

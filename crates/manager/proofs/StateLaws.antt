@@ -91,7 +91,7 @@ before-last n i h l =
     let ne : i ≡ lastIndex n → ⊥ = eqb-false i (lastIndex n) h in
     omega arith
 
--- Dubins plans have the last phase that they had before request 4, at every index
+-- 13.4: Dubins plans have five phases at every index
 pub dubins-phase : (n i : ℕ) → lastPhase Dubins n i ≡ 5
 unfolding lastPhase
 dubins-phase n i = refl

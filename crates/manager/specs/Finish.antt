@@ -1,4 +1,4 @@
--- Request 4: a flight of any mode can be finished, and stays so. Assumes nothing.
+-- Clause 13.6: a flight of any mode can be finished, and stays so. Assumes nothing.
 use mathlib.Core.Path.{_≡_}
 use mathlib.Core.Bool.{true}
 use Prim.Native.Nat.{_-_}

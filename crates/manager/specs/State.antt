@@ -1,5 +1,4 @@
--- A state holds "serial, mode, radius, points, courses, index, phase and finished". The empty state, the start of a plan, and refusal 14.
--- Assumes nothing.
+-- Clauses 7.14, 8.2, 8.4, 8.5, 12.10, 13.1, 13.4, 13.5: a state: the empty one, the start of a plan, and refusal 14. Assumes nothing.
 use mathlib.Core.Bool.{Bool, true, false}
 use mathlib.Core.List.{List}
 use Prim.Native.Nat.{ℕ, _≤_}
@@ -18,7 +17,7 @@ use Rattle.plan.specs.Stands.{standsOf, Stands}
 use Rattle.manager.specs.declared.Progress.{Progress}
 use Rattle.manager.specs.declared.State.{State}
 
--- "The empty state is all zero, mode lines, with no points"
+-- 8.2: nothing but zeros, and no points
 abbrev pub zeros : List ℤ
 zeros = replicate mostPoints (pos 0)
 
@@ -28,7 +27,7 @@ emptyPlan = seen (record { serial = 0; mode = Lines; radius = 0; count = 0 }) ze
 abbrev pub emptyState : State
 emptyState = record { plan = emptyPlan; progress = record { index = 0; phase = 0; finished = false } }
 
--- "A successful load gives index 2, phase 1, not finished."
+-- 8.5: where a loaded plan starts
 abbrev pub firstProgress : Progress
 firstProgress = record { index = 2; phase = 1; finished = false }
 
@@ -39,7 +38,7 @@ startOf p = record { plan = p; progress = firstProgress }
 abbrev pub viewed : Head → Progress → List ℤ → List ℤ → List ℤ → List ℤ → State
 viewed h p norths easts downs courses = record { plan = seen h norths easts downs courses; progress = p }
 
--- the last index of n points, in every mode: since request 4 lines and fillets fly up to point N too, as Dubins plans do
+-- 13.1: the last index of n points, in every mode
 unfoldable pub lastIndex : ℕ → ℕ
 lastIndex n = n
 
@@ -47,8 +46,7 @@ lastIndex n = n
 unfoldable pub onLastLeg : ℕ → ℕ → Bool
 onLastLeg n i = eqb i (lastIndex n)
 
--- the last phase at an index: "lines have 1 only, fillets 1 line and 2 circle, Dubins 1 to 5". At point N a fillet plan has no corner to round,
--- so phase line is its last one there (request 4).
+-- 8.4: the last phase at an index. 13.5: at point N a fillet plan has no corner to round, so the line is its last phase there.
 unfoldable pub lastPhase : Mode → ℕ → ℕ → ℕ
 lastPhase Lines n i = 1
 lastPhase Fillets n i = choose (onLastLeg n i) 1 2
@@ -58,14 +56,14 @@ lastPhase Dubins n i = 5
 unfoldable pub atEnd : Mode → ℕ → Progress → Bool
 atEnd mode n p = both (onLastLeg n (p .index)) (eqb (p .phase) (lastPhase mode n (p .index)))
 
--- refusal 14: "its index or phase isn't one the mode allows"
+-- 7.14: an index and a phase that the mode has
 unfoldable pub indexFits : ℕ → Progress → Bool
 indexFits n p = both (leb 2 (p .index)) (leb (p .index) (lastIndex n))
 
 unfoldable pub phaseFits : Mode → ℕ → Progress → Bool
 phaseFits mode n p = both (leb 1 (p .phase)) (leb (p .phase) (lastPhase mode n (p .index)))
 
--- "or it is finished before the last index and phase"
+-- 7.14: finished only at the end
 unfoldable pub endFits : Mode → ℕ → Progress → Bool
 endFits mode n p = choose (p .finished) (atEnd mode n p) true
 

@@ -1,4 +1,5 @@
--- Document 01, "One fix", with request 4, the last leg, for a state of any mode. Assumes nothing.
+-- Clauses 6.3, 7.15, 8.3, 9.2, 9.3, 9.6, 9.7, 10.4, 11.7, 12.1, 12.9, 12.10, 13.1, 13.2, 13.4, 15.1, 15.3, 15.5, 15.7, 18.2: one fix, for a
+-- state of any mode. Assumes nothing.
 use mathlib.Core.Bool.{Bool, true, false}
 use Prim.Native.Nat.{ℕ, _+_, _-_}
 use lib.Dec.{eqb, ltb}
@@ -27,7 +28,7 @@ use Rattle.manager.specs.declared.Decided.{Decided}
 use Rattle.manager.specs.declared.Stepped.{Stepped}
 use Rattle.manager.specs.State.{onLastLeg, lastPhase, validOf}
 
--- the leg that is flown at an index of a Dubins plan, "from point i−1 with course χs to point i with χe"; places are counted from 0
+-- the leg of section 12 that is flown at an index of a Dubins plan; places are counted from 0
 abbrev pub endsOf : Plan → ℕ → Ends
 endsOf plan i = endsAt (plan .head .radius) (planPoint plan) (planCourse plan) (i - 2) (i - 1)
 
@@ -36,8 +37,8 @@ unfoldable pub pathGuide : Ends → ℕ → Point → Found → Guidance
 pathGuide ends phase p (Shortest path) = dubinsGuide ends path phase p
 pathGuide ends phase p Missing = record { command = Nothing; heading = 0; passed = false }
 
--- "The command belongs to the index and phase before the fix": what each mode does at index i, with the points i−1, i and i+1. The last leg has
--- no point behind it; lines and fillets have a rule of their own there (request 4), fillets in north and east.
+-- 9.2: what each mode does at index i, with the points i−1, i and i+1. 13.2: the last leg has no point behind it; lines and fillets have a rule
+-- of their own there, fillets in north and east.
 unfoldable pub guideOf : Mode → Plan → ℕ → ℕ → Point → Guidance
 guideOf Lines plan i phase p =
     choose (onLastLeg (plan .head .count) i) (lastLegGuide false (planPoint plan (i - 2)) (planPoint plan (i - 1)) p)
@@ -47,7 +48,7 @@ guideOf Fillets plan i phase p =
     (filletGuide (planPoint plan (i - 2)) (planPoint plan (i - 1)) (planPoint plan i) (plan .head .radius) phase p)
 guideOf Dubins plan i phase p = pathGuide (endsOf plan i) phase p (shortestOf (endsOf plan i))
 
--- "at most one phase change follows": the next phase; after the last one the next i and phase 1, or at the last i it stays "and finished is set"
+-- 9.3: the next phase; after the last one the next index with phase 1; at the last index of all nothing moves, and finished is set
 unfoldable pub nextOf : Mode → ℕ → Progress → Bool → Progress
 nextOf mode n p passed =
     choose passed
@@ -62,7 +63,7 @@ nextOf mode n p passed =
 abbrev pub steppedBy : Plan → Decided → Stepped
 steppedBy plan d = record { answer = d .answer; state = record { plan = plan; progress = d .progress } }
 
--- "refused, it gives no command, heading 0, and the given state's index, phase and finished"
+-- 9.7: no command, heading 0, and the state where it was
 abbrev pub refusedAt : Progress → ℕ → Decided
 refusedAt p number =
     record {
@@ -82,7 +83,7 @@ refusedAt p number =
 unfoldable pub refuseOf : State → ℕ → Stepped
 refuseOf s number = steppedBy (s .plan) (refusedAt (s .progress) number)
 
--- "The answer also has the heading for that command and the next state's index, phase, finished."
+-- 9.6: the command and its heading, and where the next state is
 abbrev pub answered : Guidance → Progress → Decided
 answered g next =
     record {
@@ -112,7 +113,7 @@ unfoldable pub locatedStep : State → Position → Stepped
 locatedStep s (At p) = movedOf s p
 locatedStep s Nowhere = refuseOf s noPosition
 
--- "A fix checks 14, 15, 13"
+-- 6.3: the order of 14, 15 and 13
 unfoldable pub stepOf : State → ℕ → Fix → Stepped
 stepOf s serial fix =
     choose (validOf s) (choose (eqb serial (s .plan .head .serial)) (locatedStep s (positionOf fix)) (refuseOf s otherSerial)) (refuseOf s noState)

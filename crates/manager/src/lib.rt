@@ -1,5 +1,5 @@
-// The state of a flight, and one fix at a time (document 01, "One fix" and refusals 13 to 15; request 4, the last leg). A fix is decided over
-// a plan's small fields, how far it is flown, and its numbers, which are lent: nothing is copied.
+// The state of a flight, and one fix at a time (docs/RULES.md, 7.13 to 7.15 and sections 8, 9 and 13). A fix is decided over a plan's small
+// fields, how far it is flown, and its numbers, which are lent: nothing is copied.
 use dubins::Ends;
 use dubins::Found;
 use guidance::Command;
@@ -42,7 +42,7 @@ pub struct State {
     pub progress: Progress,
 }
 
-// What a fix is answered. The refusal is document 01's number, 0 for none.
+// What a fix is answered. The refusal is a number of section 7, 0 for none.
 pub struct Answer {
     pub refusal: u8,
     pub place: usize,

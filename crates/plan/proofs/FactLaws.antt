@@ -1,4 +1,4 @@
--- The limits and rules of a plan come to what document 01 says. Assumes nothing.
+-- The limits and rules of a plan come to what docs/RULES.md says. Assumes nothing.
 use mathlib.Core.Path.{refl}
 use borrow.Author.Tests.{lt-ltb, le-ltb}
 use Rattle.conditions.specs.Choose.{choose}

@@ -1,5 +1,5 @@
--- What the limits and rules of a plan come to, in document 01's numbers: laws, and one list of examples that the prover computes. A
--- definition that is changed together with the code that it describes is refused here. Assumes nothing.
+-- Holds clauses 1.3 to 1.5, 4.10, 6.2, 7.8 to 7.12, 7.14, 7.17: what the limits and rules of a plan come to, in numbers: laws, and one list of
+-- examples that the prover computes. A definition that is changed together with the code that it describes is refused here. Assumes nothing.
 use mathlib.Core.Path.{_≡_}
 use mathlib.Core.Bool.{Bool, true, false}
 use mathlib.Core.List.{List, [], _∷_}
@@ -44,7 +44,7 @@ PlanHolds (inside p t) = inAreaOf p ≡ t
 PlanHolds (arcs R t) = arcRadius R ≡ t
 PlanHolds (stands p t) = standsOf p ≡ t
 
--- ---- points of examples: a corner of document 01; out and back
+-- ---- points of examples: a corner of section 19; out and back
 abbrev pub corner : List Point
 corner = ground 0 0 ∷ ground 1000 0 ∷ ground 1000 1000 ∷ []
 
@@ -67,7 +67,7 @@ onePut i numbers = set numbers i (pos 1)
 -- negsuc n is −(n + 1)
 abbrev pub planExamples : List PlanExample
 planExamples =
-    -- "points in 3..64", "North and east lie in ±500,000, down in ±100,000, radius R in 50..10,000", courses in 1/4096, "turn above 1,792"
+    -- the limits of section 1, the number of courses, and the sharpest turn of 7.11
     limit fewestPoints 3
     ∷ limit mostPoints 64
     ∷ limit mostLevel 500000
@@ -98,7 +98,7 @@ planExamples =
     ∷ judged 100 (ground 0 0 ∷ ground 0 300 ∷ ground 0 0 ∷ []) (0 ∷ 0 ∷ 0 ∷ []) 0 0
     -- 11 of fillets, before a 12 at a lower place
     ∷ judged 1000 (ground 0 0 ∷ ground 0 100 ∷ ground 1000 100 ∷ ground 500 100 ∷ []) [] 11 3
-    -- 12: document 01's corner; tangent lengths of two corners together; and the lower of two places
+    -- 7.12: the corner of section 19; tangent lengths of two corners together; and the lower of two places
     ∷ judged 1000 corner [] 0 0
     ∷ judged 1001 corner [] 12 2
     ∷ judged 600 (ground 0 0 ∷ ground 1000 0 ∷ ground 1000 1000 ∷ ground 2000 1000 ∷ []) [] 12 3
@@ -131,7 +131,7 @@ pub record PlanFacts : Type 0 where
   -- 11 of fillets
   pub sharp : (a b c : Point) → 1792 < cornerTurn a b c → cornerNumber Fillets a b c ≡ 11
   pub blunt : (a b c : Point) → cornerTurn a b c ≤ 1792 → cornerNumber Fillets a b c ≡ 0
-  -- "12 precedes 17 at one leg"
+  -- 6.2: 12 comes before 17
   pub close : (ends : Ends) → farApart (ends .start) (ends .end) (ends .radius) ≡ false → endsNumber ends ≡ 12
   pub caseless : (ends : Ends) → farApart (ends .start) (ends .end) (ends .radius) ≡ true → hasPathOf ends ≡ false → endsNumber ends ≡ 17
   -- the plan of what a file gives stands, once the rules have passed

@@ -1,4 +1,4 @@
--- Document 01: "North and east lie in ±500,000, down in ±100,000, radius R in 50..10,000, points in 3..64". Assumes nothing.
+-- Clauses 1.2 to 1.5, 7.11: the limits of a plan's numbers. Assumes nothing.
 use mathlib.Core.Bool.{Bool}
 use Prim.Native.Nat.{ℕ}
 use lib.Dec.{leb, eqb}
@@ -32,7 +32,7 @@ mostRadius = 10000
 abbrev pub fullCircle : ℕ
 fullCircle = 4096
 
--- "fillets: turn above 1,792" is refused
+-- 7.11 refuses a fillet that turns further
 abbrev pub mostTurn : ℕ
 mostTurn = 1792
 
@@ -55,7 +55,7 @@ inAreaOf p = insideOf mostLevel mostDown p
 unfoldable pub zeroOf : Point → Bool
 zeroOf p = insideOf 0 0 p
 
--- "radius R in 50..10,000"
+-- 1.4: where there is a radius
 unfoldable pub arcRadius : ℕ → Bool
 arcRadius R = both (leb leastRadius R) (leb R mostRadius)
 

@@ -1,4 +1,4 @@
--- The plan that a file's lists make, and what a reader knows of them once 8 to 12 and 17 have passed. Assumes nothing.
+-- Clause 4.11: the plan that a file's lists make, and what a reader knows of them once 8 to 12 and 17 have passed. Assumes nothing.
 use mathlib.Core.Path.{_≡_}
 use mathlib.Core.Bool.{true}
 use mathlib.Core.List.{List}

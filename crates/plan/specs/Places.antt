@@ -1,5 +1,5 @@
--- The points and courses of a plan by their places, which are counted from 0 here. A plan holds each kind of number in an array of its own. A
--- list and arrays that hold it padded with zeros give the same. Assumes nothing.
+-- Clause 8.1: the points and courses of a plan by their places, which are counted from 0 here. A plan holds each kind of number in an array of
+-- its own. A list and arrays that hold it padded with zeros give the same. Assumes nothing.
 use mathlib.Core.Path.{_≡_}
 use mathlib.Core.List.{List, [], _∷_, _++_}
 use Prim.Native.Nat.{ℕ, zero, suc, _*_}

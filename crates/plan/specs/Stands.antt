@@ -1,4 +1,4 @@
--- Refusal 14's part on the plan: "the state's serial is 0, it breaks a limit or plan rule above, an unused place isn't zero". Assumes nothing.
+-- Clause 7.14, its part on the plan: serial, limits, rules, and zeros where nothing is used. Assumes nothing.
 use mathlib.Core.Path.{_≡_}
 use mathlib.Core.Bool.{Bool, true, not}
 use mathlib.Core.List.{List}

@@ -1,4 +1,4 @@
-// A plan, its limits and its rules (document 01, "What the manager covers" and refusals 8 to 12 and 17).
+// A plan, its limits and its rules (docs/RULES.md, section 1, 7.8 to 7.12 and 7.17).
 use dubins::Ends;
 use plane::Point;
 use refusals::Refusal;

@@ -1,11 +1,11 @@
--- Document 01's units, and what lies between two points. Assumes nothing.
+-- Clause 1.1: points, and what lies between two of them. Assumes nothing.
 use lib.IntN.{_-ℤ_}
 use Rattle.integers.specs.Bounds.{Within}
 use Rattle.course.specs.declared.Vector.{Vector}
 use Rattle.plane.specs.declared.Point.{Point}
 use Rattle.plane.specs.declared.Leg.{Leg}
 
--- "North and east lie in ±500,000, down in ±100,000"
+-- 1.3, as bounds
 pub record InArea (p : Point) : Type 0 where
   pub north : Within 500000 (p .north)
   pub east : Within 500000 (p .east)

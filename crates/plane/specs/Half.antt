@@ -1,4 +1,4 @@
--- Document 01, "Lines": the half-plane, and exactly opposite legs. Assumes nothing.
+-- Clauses 7.11, 10.2: the half-plane at a point between two legs, and legs that run against each other. Assumes nothing.
 use mathlib.Core.Path.{_≡_}
 use mathlib.Core.Bool.{Bool, true, false, _&&_}
 use Prim.Native.Nat.{ℕ, _+_, _*_}
@@ -20,8 +20,7 @@ square3Of a = natAbs (dot3Of a a)
 abbrev pub squareTimes : ℤ → ℕ → ℕ
 squareTimes z k = natAbs z * natAbs z * k
 
--- x/√A + y/√B ≥ 0: "both at least 0; or one is negative and the other's square times the opposite leg's square is no smaller (y²·A ≥ x²·B
--- when x < 0 ≤ y)"
+-- 10.2: x/√A + y/√B ≥ 0 without a root or a fraction
 unfoldable pub halfPlane : ℤ → ℤ → ℕ → ℕ → Bool
 halfPlane x y A B =
     choose (leZ (pos 0) x)
@@ -35,7 +34,7 @@ pub record HandHalves : Type 0 where
   pub beside : halfPlane (pos 1000) (negsuc 1999) 1000000 4000000 ≡ true
   pub short : halfPlane (pos 1000) (negsuc 2000) 1000000 4000000 ≡ false
 
--- "With legs a, b before and after point i and d the position less the point": x = d·a, y = d·b, A = a·a, B = b·b
+-- 10.2: of d, the position less the point, and of the legs before and behind it
 unfoldable pub metOf : Leg → Leg → Leg → Bool
 metOf d a b = halfPlane (dot3Of d a) (dot3Of d b) (square3Of a) (square3Of b)
 
@@ -50,6 +49,6 @@ crossSize a b =
     + minorSize (a .down) (a .north) (b .down) (b .north)
     + minorSize (a .north) (a .east) (b .north) (b .east)
 
--- "legs exactly opposite in three dimensions": parallel, with a negative dot product
+-- 7.11: parallel, with a negative dot product
 unfoldable pub oppositeOf : Leg → Leg → Bool
 oppositeOf a b = eqb (crossSize a b) 0 && ltZ (dot3Of a b) (pos 0)

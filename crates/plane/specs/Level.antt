@@ -1,4 +1,5 @@
--- Level vectors and courses: sums, products, a quarter to either side, the length of an arc. Assumes nothing.
+-- Clauses 1.1, 11.1, 11.3, 11.6, 12.1, 12.6: level vectors and courses: sums, products, a quarter to either side, the length of an arc. Assumes
+-- nothing.
 use mathlib.Core.Bool.{Bool}
 use Prim.Native.Nat.{ℕ, _*_, _/_}
 use lib.IntN.{ℤ, pos, natAbs, _+ℤ_, _-ℤ_, _*ℤ_}
@@ -26,14 +27,14 @@ dotOf a b = a .north *ℤ b .north +ℤ a .east *ℤ b .east
 unfoldable pub squareOf : Vector → ℕ
 squareOf v = natAbs (dotOf v v)
 
--- "root of its squared length"
+-- 11.3: its length, rounded down
 unfoldable pub vectorLength : Vector → ℕ
 vectorLength v = rootOf (squareOf v)
 
--- "χ+1024" to the right, "χ−1024" to the left
+-- 12.1: a quarter to the right of a course, or to the left
 unfoldable pub sidewaysOf : ℕ → Bool → ℕ
 sidewaysOf χ right = choose right (wrapOf (pos χ +ℤ pos 1024)) (wrapOf (pos χ -ℤ pos 1024))
 
--- "floor(R·(both turns)·355/231,424)"
+-- 12.6: the arc of a turn; 355/231,424 is a unit in radians, nearly
 unfoldable pub arcOf : ℕ → ℕ → ℕ
 arcOf R turns = R * turns * 355 / 231424

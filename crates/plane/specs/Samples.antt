@@ -1,4 +1,4 @@
--- Points by their numbers, for the examples of this crate and of those above it. Assumes nothing.
+-- No clause: points by their numbers, for the examples of this crate and of those above it. Assumes nothing.
 use Prim.Native.Nat.{ℕ}
 use lib.IntN.{ℤ, pos}
 use Rattle.plane.specs.declared.Point.{Point}

@@ -1,4 +1,4 @@
-// Points, legs between them, the half-plane test and the arithmetic of level vectors (document 01, "Lines").
+// Points, legs between them, the half-plane test and the arithmetic of level vectors (docs/RULES.md, 1.1 and 10.2).
 use course::Vector;
 ghost use mathlib.Core.Path.{_≡_};
 ghost use Prim.Native.Nat.{_≤_, _<_};

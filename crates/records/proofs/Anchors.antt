@@ -1,5 +1,5 @@
 -- The examples of records, computed from the definitions. The checker takes the files by name, this one before all laws, so that a definition
--- that misses document 01 is refused by its example. Assumes nothing.
+-- that misses the rules is refused by its example. Assumes nothing.
 use mathlib.Core.Path.{refl}
 use Rattle.conditions.specs.Choose.{choose}
 use Rattle.conditions.specs.Both.{both}

@@ -1,4 +1,4 @@
--- The definitions of this crate come to what document 01 says. Assumes nothing.
+-- The definitions of this crate come to what docs/RULES.md says. Assumes nothing.
 use mathlib.Core.Path.{refl}
 use Rattle.records.specs.Kinds.{table}
 use Rattle.records.specs.Facts.{RecordFacts}

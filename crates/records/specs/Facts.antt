@@ -1,5 +1,6 @@
--- What the definitions of this crate come to, in document 01's numbers: its table, laws between readers, and one list of examples that the
--- prover computes. A definition that is changed together with the code that it describes is refused here. Assumes nothing.
+-- Holds clauses 3.1, 3.3, 3.4, 4.1 to 4.9, 4.11, 7.6, 7.7, 15.8, 15.12: what the definitions of this crate come to, in numbers: the table, laws
+-- between readers, and one list of examples that the prover computes. A definition that is changed together with the code that it describes is
+-- refused here. Assumes nothing.
 use mathlib.Core.Path.{_≡_}
 use mathlib.Core.Logic.{_↔_}
 use mathlib.Core.Bool.{Bool, true, false}
@@ -50,7 +51,7 @@ RecordHolds (sifts area rest) = flat (sift (walk area)) ≡ rest
 RecordHolds (skips k t) = skipped k ≡ t
 RecordHolds (counts n m) = counted n ≡ m
 
--- ---- records of examples: document 01's second point, at (1000, 0, −1000); negsuc n is −(n + 1)
+-- ---- records of examples: a point at (1000, 0, −1000); negsuc n is −(n + 1)
 abbrev pub secondPoint : Point
 secondPoint = record { north = pos 1000; east = pos 0; down = negsuc 999 }
 
@@ -75,23 +76,23 @@ abbrev pub recordExamples : List RecordExample
 recordExamples =
     gives 1 1 aPoint 0 (secondPoint ∷ []) [] true
     ∷ gives 3 3 (radius50 ++ aPoint ++ valued 3 0x0F 0xFF) 50 (secondPoint ∷ []) (4095 ∷ []) false
-    -- 6: "record cut short, of any kind", at its offset
+    -- 7.6: cut short, at its offset
     ∷ refuses 1 1 (1 ∷ []) 6 11
     ∷ refuses 1 1 (1 ∷ 12 ∷ 0 ∷ []) 6 11
     ∷ refuses 3 4 (aPoint ++ 200 ∷ 2 ∷ 0 ∷ []) 6 25
-    -- "unknown kind in a file whose version isn't above the reader's" is 6; above it 7 for kinds below 128, and others are skipped
+    -- 7.6 and 7.7: a kind that the reader does not know, in a file that is not above it, and in one that is; and 4.7
     ∷ refuses 3 3 (blank 200 1) 6 11
     ∷ refuses 3 3 (blank 7 0) 6 11
     ∷ refuses 3 4 (blank 7 0) 7 11
     ∷ refuses 3 4 (aPoint ++ blank 127 0) 7 25
     ∷ gives 3 4 (blank 200 1) 0 [] [] false
-    -- "A reader of version r knows the kinds since r or earlier."
+    -- 4.6: the kinds that each reader knows
     ∷ refuses 1 2 radius50 7 11
     ∷ gives 2 2 radius50 50 [] [] false
     ∷ refuses 2 3 (aPoint ++ course0) 7 25
     ∷ gives 1 2 (blank 128 0) 0 [] [] false
     ∷ gives 2 3 (valued 129 0 0) 0 [] [] false
-    -- "newer than the file's version"
+    -- 7.6: a kind that the file's own version lacks
     ∷ refuses 3 1 radius50 6 11
     ∷ refuses 3 2 (aPoint ++ course0) 6 25
     ∷ refuses 3 1 (blank 128 1) 6 11
@@ -119,33 +120,33 @@ recordExamples =
     ∷ gives 3 3 (valued 129 0x03 0xE8) 0 [] [] false
     ∷ refuses 3 3 (valued 129 0x03 0xE9) 6 11
     ∷ refuses 1 1 (1 ∷ 12 ∷ 0x00 ∷ 0x07 ∷ 0xA1 ∷ 0x21 ∷ replicate 8 0) 6 11
-    -- "Radius: at most once, before the first point."
+    -- 4.8: a second radius, and one behind a point
     ∷ refuses 3 3 (radius50 ++ radius50) 6 15
     ∷ refuses 3 3 (aPoint ++ radius50) 6 25
-    -- "Course: one at most per point, and the record before it, kinds from 128 up not counted, is a point."
+    -- 4.9: a second course, one behind a radius, and one with a note between
     ∷ refuses 3 3 (radius50 ++ course0) 6 15
     ∷ refuses 3 3 (aPoint ++ course0 ++ course0) 6 29
     ∷ refuses 3 3 (aPoint ++ course0 ++ blank 128 1 ++ course0) 6 32
     ∷ gives 3 3 (aPoint ++ blank 128 1 ++ course0) 0 (secondPoint ∷ []) (0 ∷ []) false
     ∷ gives 3 4 (aPoint ++ blank 200 1 ++ course0) 0 (secondPoint ∷ []) (0 ∷ []) false
-    -- "the records from the first"
+    -- 6.1: the first record that is wrong
     ∷ refuses 3 4 (blank 7 0 ++ valued 2 0 49) 7 11
     ∷ refuses 3 4 (valued 2 0 49 ++ blank 7 0) 6 11
-    -- "a radius or course which that version lacks"
+    -- 15.8: what each version lacks
     ∷ lacked 1 (aPoint ++ radius50) true
     ∷ lacked 2 (aPoint ++ radius50) false
     ∷ lacked 1 (aPoint ++ course0) true
     ∷ lacked 2 (aPoint ++ course0) true
     ∷ lacked 3 (radius50 ++ aPoint ++ course0) false
     ∷ lacked 1 (aPoint ++ blank 128 1 ++ valued 129 0 1) false
-    -- "a file holds the records met from offset 11 by their own lengths; they fill the area when that walk ends at its end"
+    -- 3.4: records by their own lengths, up to the end or not
     ∷ walks (blank 7 0 ++ valued 200 9 8) (more 7 [] (more 200 (9 ∷ 8 ∷ []) end))
     ∷ walks (blank 7 0 ++ 200 ∷ 2 ∷ 9 ∷ []) (more 7 [] short)
     ∷ filled [] true
     ∷ filled (aPoint ++ course0) true
     ∷ filled (aPoint ++ 3 ∷ 2 ∷ 0 ∷ []) false
     ∷ filled (aPoint ++ 3 ∷ []) false
-    -- "with its unknown optional records cut out"
+    -- 15.12: the records that are cut out
     ∷ sifts (blank 200 1 ++ blank 128 1 ++ aPoint ++ blank 130 0 ++ blank 7 0) (blank 128 1 ++ aPoint ++ blank 7 0)
     ∷ skips 127 false
     ∷ skips 128 false
@@ -164,7 +165,7 @@ pub record Beside (r v : ℕ) (w : Walked) (at : ℕ) (a b : Parts) : Type 0 whe
   pub takes : holdsNewer r w ≡ false → gather r v at a w ≡ good b
 
 pub record RecordFacts : Type 0 where
-  -- document 01's table: a kind, since which version, the least and the greatest length of its body
+  -- the table of section 4: a kind, since which version, the least and the greatest length of its body
   pub kinds : table ≡ row 1 1 12 12 ∷ row 2 2 2 2 ∷ row 3 3 2 2 ∷ row 128 2 1 32 ∷ row 129 3 2 2 ∷ []
   pub header : headerLength ≡ 11
   pub versions : newest ≡ 3

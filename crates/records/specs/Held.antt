@@ -1,5 +1,5 @@
--- The structs of the code and the numbers that it fills, by what the definitions of the records give. Points and courses lie in arrays of a
--- plan's length: what is over is counted up to one and not stored, which is all that refusals 8 and 9 ask. Assumes nothing.
+-- No clause: the structs of the code and the numbers that it fills, by what the definitions of the records give. Points and courses lie in
+-- arrays of a plan's length: what is over is counted up to one and not stored, which is all that refusals 8 and 9 ask. Assumes nothing.
 use mathlib.Core.List.{List}
 use Prim.Native.Nat.{ℕ, _+_, min}
 use lib.IntN.{ℤ}

@@ -1,4 +1,4 @@
-// The records of a plan file: kinds, their rules, and what a walk over them gathers (document 01, "The plan file").
+// The records of a plan file: kinds, their rules, and what a walk over them gathers (docs/RULES.md, sections 3 and 4).
 use integers::ONE_BYTE;
 use integers::TWO_BYTES;
 use plan::FULL_CIRCLE;
@@ -98,7 +98,7 @@ pub const SPEED_ROW: Kind = Kind {
 
 const KINDS: usize = 5;
 
-// Document 01's table. Reader versions consult it, and nothing else says which kinds there are.
+// The table of docs/RULES.md, section 4. Reader versions consult it, and nothing else says which kinds there are.
 const TABLE: [Kind; KINDS] = [POINT_ROW, RADIUS_ROW, COURSE_ROW, NOTE_ROW, SPEED_ROW];
 
 // What a record does to what was gathered before it.
@@ -206,7 +206,7 @@ fn point_in(body: &[u8]) -> Point
     Point { north, east, down }
 }
 
-// A radius: at most once, before the first point.
+// A radius, of which there is one and no point before it (4.8).
 fn radius_rule(body: &[u8], before: Tally) -> Effect
     ensures { λ x. ⌜ ((a : Parts) → before ≡ tallyOf a → verdictOf a x ≡ radiusRule (now (body .entry)) a) ⌝ }
 {
@@ -234,7 +234,7 @@ fn course_rule(body: &[u8], before: Tally) -> Effect
     Effect::Wrong
 }
 
-// Notes and speeds don't enter the plan.
+// Notes and speeds leave the plan as it is (4.11).
 fn optional_rule(kind: u8, body: &[u8]) -> Effect
     ensures { λ x. ⌜ ((a : Parts) → verdictOf a x ≡ optionalRule kind (now (body .entry)) a) ⌝ }
 {

@@ -1,4 +1,4 @@
--- The numbers are document 01's, a chain stops at its first refusal, and a sweep at its lowest place. Assumes nothing.
+-- The numbers are those of section 7, a chain stops at its first refusal, and a sweep at its lowest place. Assumes nothing.
 use mathlib.Core.Path.{_≡_, refl, _∙_}
 use mathlib.Core.Bool.{true, false}
 use Prim.Native.Nat.{ℕ, zero, suc, _+_, _≤_, _<_}

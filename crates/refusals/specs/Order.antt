@@ -1,5 +1,5 @@
--- What the definitions of this crate come to: document 01's numbers, the order of a chain, and "The lowest place comes first". A definition that
--- is changed together with the code that it describes is refused here. Assumes nothing.
+-- Holds clauses 6.1, 6.2, 7.1 to 7.17: what the definitions of this crate come to: the numbers, the order of a chain, and the lowest place of a
+-- sweep. A definition that is changed together with the code that it describes is refused here. Assumes nothing.
 use mathlib.Core.Path.{_≡_}
 use mathlib.Core.Bool.{true, false, Bool}
 use mathlib.Core.List.{List, [], _∷_}
@@ -9,7 +9,7 @@ use Rattle.refusals.specs.Numbers.{fileTooShort, noMark, noVersion, noSe
 use Rattle.refusals.specs.Outcome.{Outcome, good, refused, check, andThen, refusalOf, isGood}
 use Rattle.refusals.specs.Sweep.{Done, done, sweep, every}
 
--- the numbers by their names, in the order of document 01's rows, and the one of our own
+-- the numbers by their names, in the order of section 7, and that of 17.5
 abbrev pub named : List ℕ
 named =
     fileTooShort ∷ noMark ∷ noVersion ∷ noSerial ∷ wrongArea ∷ wrongRecord ∷ tooNew ∷ pointCount ∷ courseCount ∷ equalNeighbours ∷ sharpCorner ∷ shortLeg

@@ -1,4 +1,4 @@
--- A chain of checks: what passes goes on, the first refusal stands. Assumes nothing.
+-- Clause 6.1: a chain of checks: what passes goes on, the first refusal stands. Assumes nothing.
 use mathlib.Core.Bool.{Bool, true, false}
 use Prim.Native.Nat.{ℕ}
 use Rattle.refusals.specs.declared.Refusal.{Refusal}

@@ -1,4 +1,4 @@
--- Sweeps over places, from i on, k of them. "The lowest place comes first." Assumes nothing.
+-- Clause 6.2: sweeps over places, from i on, k of them; the lowest that is refused stands. Assumes nothing.
 use mathlib.Core.Bool.{Bool, true}
 use Prim.Native.Nat.{ℕ, zero, suc, _+_}
 use lib.Dec.{eqb}

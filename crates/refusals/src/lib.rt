@@ -1,15 +1,15 @@
-// Refusals: their numbers, and the order in which they are found, a chain of checks and sweeps over places (document 01, "Refusal numbers and
-// their order"). The definitions have each number by the same name (specs/Numbers).
+// Refusals: their numbers, and the order in which they are found, a chain of checks and sweeps over places (docs/RULES.md, sections 6 and 7).
+// The definitions have each number by the same name (specs/Numbers).
 ghost use mathlib.Core.Path.{_≡_};
 ghost use mathlib.Core.Bool.{false};
 ghost use Rattle.refusals.specs.Outcome.{good, check, refusalOf};
 ghost use Rattle.refusals.specs.Sweep.{done};
 ghost use Rattle.refusals.specs.Order.{Order};
 
-// Under 11 bytes.
+// Fewer bytes than a header has.
 pub const FILE_TOO_SHORT: u8 = 1;
 
-// The mark differs.
+// No mark.
 pub const NO_MARK: u8 = 2;
 
 // File version 0, or a reader or writer of a version that there is not.
@@ -18,10 +18,10 @@ pub const NO_VERSION: u8 = 3;
 // Serial 0.
 pub const NO_SERIAL: u8 = 4;
 
-// The area length differs from the bytes after the header, or is too long.
+// An area length that is not that of the area, or too long.
 pub const WRONG_AREA: u8 = 5;
 
-// A record is cut short, or wrong in its length, value, position or version.
+// A record that is cut short, or wrong in its length, value, position or version.
 pub const WRONG_RECORD: u8 = 6;
 
 // A record too new for the reader; a plan too new for the version that is written.
@@ -30,13 +30,13 @@ pub const TOO_NEW: u8 = 7;
 // Too few points, or too many.
 pub const POINT_COUNT: u8 = 8;
 
-// A course without a radius, or courses at some points only.
+// Courses and no radius, or not at every point.
 pub const COURSE_COUNT: u8 = 9;
 
-// Neighbouring points equal in north and east.
+// Two points in a row at one level place.
 pub const EQUAL_NEIGHBOURS: u8 = 10;
 
-// Legs exactly opposite; fillets: too sharp a turn.
+// A leg right back along the one before it; fillets: too sharp a turn.
 pub const SHARP_CORNER: u8 = 11;
 
 // A leg too short for its arcs.
@@ -48,16 +48,16 @@ pub const NO_POSITION: u8 = 13;
 // A state that breaks a limit or a rule.
 pub const NO_STATE: u8 = 14;
 
-// The named serial isn't the state's.
+// A fix for another plan.
 pub const OTHER_SERIAL: u8 = 15;
 
-// The writer's buffer is too short.
+// A buffer shorter than the file.
 pub const NO_ROOM: u8 = 16;
 
-// No Dubins case exists for a leg.
+// A leg without any Dubins case.
 pub const NO_CASE: u8 = 17;
 
-// A slice that is lent too short, or lists that differ in length. It is none of document 01's numbers.
+// A slice that is lent too short, or lists that differ in length: 17.5. It is no number of section 7.
 pub const MISFIT: u8 = 100;
 
 // A refusal: its number, 0 for none, and its place.

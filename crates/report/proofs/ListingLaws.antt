@@ -62,7 +62,7 @@ module _ (p : Plan) (from : ℕ) (old : List ℕ) (room : from + 108 * p .head .
     pub ends : p .head .count ≤ i → Wrote from (linesTo p (p .head .count)) old now at
     ends h = let e : i ≡ p .head .count = omega (arith, u .inside) in rw e at (u .done)
 
--- ---- 8: "points under 3 or over 64"
+-- ---- 7.8
 pub loaded-few : (r : ℕ) (f : List ℕ) (o : Outcome State) → loadOf r f ≡ o → loadedOf o .state .plan .head .count ≤ mostPoints
 unfolding loadedOf
 loaded-few r f (good s) e = valid-means s (load-valid r f s e) .stands .most

@@ -1,4 +1,4 @@
--- The lines of a load, of a note and of a write. Refusal 0 stands for none. Assumes nothing.
+-- No clause: the lines of a load, of a note and of a write, which `answers` prints. Refusal 0 stands for none. Assumes nothing.
 use mathlib.Core.List.{List, _++_}
 use Prim.Native.Nat.{ℕ}
 use Rattle.text.specs.Ascii.{ascii}

@@ -1,5 +1,5 @@
--- The line of a fix, of its answer's eight words and its command's six numbers (c_answer/specs/Words): its number, the command with the bits of
--- its floats and the heading, or the refusal, and what the next state is at. Assumes nothing.
+-- No clause: the line of a fix, which `fly` prints, of its answer's eight words and its command's six numbers (c_answer/specs/Words): its
+-- number, the command with the bits of its floats and the heading, or the refusal, and what the next state is at. Assumes nothing.
 use mathlib.Core.List.{List, [], _++_}
 use Prim.Native.Nat.{ℕ, zero, suc}
 use lib.Dec.{eqb}
@@ -19,7 +19,7 @@ floatsTo numbers (suc i) = floatsTo numbers i ++ (space ++ floatText (getD numbe
 unfoldable pub senseText : ℕ → List ℕ
 senseText sense = choose (eqb sense 1) (ascii " sense 1") (ascii " sense -1")
 
--- kind 1: "a line (start, direction)"; 2: "a circle (centre, radius, sense ..)"; 0: none
+-- by the kind of 17.11: a line, a circle, or no command
 unfoldable pub commandText : ℕ → ℕ → List Float → List ℕ
 commandText kind sense numbers =
     choose (eqb kind 1) (ascii " line" ++ floatsTo numbers 6)

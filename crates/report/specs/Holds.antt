@@ -1,5 +1,5 @@
--- What holds the definitions: a listing by document 01's example, a file that is refused and a plan of each other mode; the line of a fix by
--- one of each kind; and the other lines by one. Assumes nothing.
+-- Holds clauses 16.1 to 16.3: a listing by an example in bytes, a file that is refused and a plan of each other mode; the line of a fix by one
+-- of each kind; and the other lines by one. Assumes nothing.
 use mathlib.Core.Path.{_≡_}
 use mathlib.Core.Bool.{true, false}
 use mathlib.Core.List.{List, [], _∷_}
@@ -13,7 +13,7 @@ use Rattle.report.specs.Listing.{planText, listingOf}
 use Rattle.report.specs.Fix.{fixText}
 use Rattle.report.specs.Answers.{loadText, noteText, writtenText}
 
--- "Input:"
+-- three points in lines, serial 7
 abbrev pub exampleFile : List ℕ
 exampleFile =
     0x57 ∷ 0x50 ∷ 0x4C ∷ 0x00 ∷ 0x01 ∷ 0x00 ∷ 0x00 ∷ 0x00 ∷ 0x07 ∷ 0x00 ∷ 0x2A
@@ -37,10 +37,10 @@ sixNumbers =
     fin false 3 (negsuc 0) ∷ fin false 0 (pos 0) ∷ fin true 25 (pos 2) ∷ fin false 3 (negsuc 0) ∷ fin false 0 (pos 0) ∷ fin true 1 (pos 0) ∷ []
 
 pub record ListingHolds : Type 0 where
-  -- "Whole output"
+  -- 16.2: all that is printed
   pub example : listingOf exampleFile
       ≡ ascii "plan 7 version 1 mode lines points 3\n1 0 0 -1000 -\n2 1000 0 -1000 -\n3 1000 2000 -1000 -\n"
-  -- "A refusal prints one line, `refused 6 at 11`."
+  -- 16.3: the file cut short in its first record
   pub refusal : listingOf shortFile ≡ ascii "refused 6 at 11\n"
   pub fillets : planText 2 (planOf 8 200 somePoints []) ≡ ascii "plan 8 version 2 mode fillets points 3\n1 0 0 -1000 -\n2 1000 20 3 -\n3 -5 2000 0 -\n"
   pub dubins : planText 3 (planOf 9 100 somePoints (1024 ∷ 0 ∷ 4095 ∷ []))

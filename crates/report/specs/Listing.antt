@@ -1,5 +1,4 @@
--- The listing of a file, by document 01's "Checked examples": "Whole output (serial, file version, mode lines/fillets/dubins, count; then
--- number, north, east, down, course or -)", and "A refusal prints one line". Assumes nothing.
+-- Clauses 16.1 to 16.3: the listing of a file, or the line of its refusal. Assumes nothing.
 use mathlib.Core.List.{List, [], _++_}
 use Prim.Native.Nat.{ℕ, zero, suc}
 use lib.Dec.{eqb, leb}
@@ -36,7 +35,7 @@ titleOf version h =
     countText (ascii "plan ") (h .serial)
     ++ (countText (ascii " version ") version ++ (ascii " mode " ++ (modeText (h .mode) ++ (countText (ascii " points ") (h .count) ++ newline))))
 
--- "course or -"
+-- 16.2: a course, or a dash
 unfoldable pub courseText : Mode → ℕ → List ℕ
 courseText Lines course = ascii " -"
 courseText Fillets course = ascii " -"

@@ -1,5 +1,5 @@
-// What programs print, as text in a lent buffer: the listing of a plan file (document 01, "Checked examples"), the line of a fix, and the lines
-// of a load, a note and a write.
+// What programs print, as text in a lent buffer: the listing of a plan file (docs/RULES.md, section 16), the line of a fix, and the lines of a
+// load, a note and a write.
 use c_answer::CIRCLE_KIND;
 use c_answer::LINE_KIND;
 use plan::Head;

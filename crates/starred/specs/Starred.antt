@@ -1,4 +1,4 @@
--- Document 01's starred examples, one list. Assumes nothing.
+-- Clause 19.1: the starred examples, one list. Assumes nothing.
 use mathlib.Core.Path.{_≡_}
 use mathlib.Core.Bool.{Bool, true, false}
 use mathlib.Core.List.{List, [], _∷_}
@@ -69,7 +69,7 @@ StarredHolds (lacks ends case) = lengthIn (casePath ends case) ≡ absent
 StarredHolds (flies ends case length z1 z2) = legBriefOf (shortestOf ends) ≡ path case length z1 z2
 StarredHolds (headsBy q d k) = lineHeading q d ≡ k
 
--- the legs are those of "R 100, from (0,0) course 0"; negsuc n is −(n + 1); 0x3E800000 is 0.25 and 0xBE800000 is −0.25
+-- the legs have R 100, from (0, 0) on course 0; negsuc n is −(n + 1); 0x3E800000 is 0.25 and 0xBE800000 is −0.25
 abbrev pub starred : List StarredExample
 starred =
     bears (plain 1 0) 0

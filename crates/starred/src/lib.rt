@@ -1,4 +1,4 @@
-// Document 01's starred examples, proved as one statement over one list: specs/Starred and proofs/StarredLaws.
+// The starred examples (docs/RULES.md, section 19), proved as one statement over one list: specs/Starred and proofs/StarredLaws.
 ghost use mathlib.Core.Path.{_≡_};
 ghost use lib.ListN.{length};
 ghost use Rattle.conditions.specs.All.{All};

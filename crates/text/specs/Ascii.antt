@@ -1,4 +1,4 @@
--- The bytes of a quoted text, all of whose characters are ASCII. Assumes nothing.
+-- No clause: the bytes of a quoted text, all of whose characters are ASCII. Assumes nothing.
 use Prim.Native.Nat.{ℕ}
 use Prim.Native.Char.{code}
 use Prim.Native.String.{String, [] as none, _∷_ as _then_}

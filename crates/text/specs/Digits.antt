@@ -1,4 +1,4 @@
--- Numbers as ASCII text, and how such text is read. Assumes nothing.
+-- Clauses 16.4, 16.5: numbers as ASCII text, and how such text is read. Assumes nothing.
 use mathlib.Core.Path.{_≡_}
 use mathlib.Core.List.{List, [], _∷_, _++_}
 use Prim.Native.Nat.{ℕ, zero, suc, _+_, _-_, _*_, _/_, _%_, _≤_, _<_}

@@ -1,4 +1,4 @@
--- What holds the definitions of text: each reads back as what it was made of, a number has one decimal text, and examples. Assumes nothing.
+-- Holds clauses 16.3 to 16.5: each text reads back as what it was made of, a number has one decimal text, and examples. Assumes nothing.
 use mathlib.Core.Path.{_≡_}
 use mathlib.Core.List.{List, [], _∷_}
 use Prim.Native.Nat.{ℕ, _^_, _<_}
@@ -32,6 +32,6 @@ pub record FloatHolds : Type 0 where
   pub plain : floatText (ofBits binary32 0x3FC0_0000) ≡ ascii "3fc00000"
   pub not-one : floatText nan ≡ ascii "7fc00000"
 
--- document 01: "A refusal prints one line, `refused 6 at 11`."
+-- 16.3: number 6, place 11
 pub record RefusalHolds : Type 0 where
   pub line : refusalText 6 11 ≡ ascii "refused 6 at 11"

@@ -1,4 +1,4 @@
--- What lines are made of: a number behind a word, bytes, the bits of a float, a refusal. Assumes nothing.
+-- Clauses 16.3, 16.5: what lines are made of: a number behind a word, bytes, the bits of a float, a refusal. Assumes nothing.
 use mathlib.Core.List.{List, [], _++_}
 use Prim.Native.Nat.{ℕ, zero, suc}
 use lib.IntN.{ℤ}

@@ -1,5 +1,5 @@
--- What writing a text from a place on comes to: it stands there whole, every other byte is what it was, and the answer is the place behind it.
--- Assumes nothing.
+-- No clause: what writing a text from a place on comes to: it stands there whole, every other byte is what it was, and the answer is the place
+-- behind it. Assumes nothing.
 use mathlib.Core.Path.{_≡_}
 use mathlib.Core.List.{List}
 use Prim.Native.Nat.{ℕ, _+_, _≤_}

@@ -1,5 +1,5 @@
--- Document 01: "Fix: 0.25 m is 3, −0.25 m is −3, 0.04 m is 0; 50,000.0 accepted, 50,000.00390625 refused 13", and the other limits. They hold the
--- definitions to the paper, whatever the code does. Assumes nothing.
+-- Holds clauses 7.13, 9.1: the fixes of section 19, and the other limits. They hold the definitions to the rules, whatever the code does.
+-- Assumes nothing.
 use mathlib.Core.Path.{_≡_}
 use Prim.Native.Nat.{ℕ}
 use lib.IntN.{ℤ, pos, negsuc}

@@ -1,4 +1,4 @@
--- Document 01: "A fix is three f32 in metres. Each becomes the nearest decimetre of its exact value, halves away from zero." Assumes nothing.
+-- Clauses 7.13, 9.1, 18.7: a float in metres as decimetres, and whether it is in range. Assumes nothing.
 use Prim.Native.Nat.{ℕ, _+_, _*_, _/_}
 use mathlib.Core.Bool.{Bool, true, false}
 use lib.IntN.{ℤ, pos, negℤ}
@@ -20,7 +20,7 @@ decimetresOf nan = pos 0
 decimetresOf (inf s) = pos 0
 decimetresOf (fin s m e) = signed s (nearestQuotient (m * up e * 10) (down e))
 
--- refusal 13 is for "NaN, infinite, or beyond": x is none of these, beyond being by its exact value
+-- 7.13: neither NaN nor infinite, and its exact value not beyond the limit
 unfoldable pub inLimit : ℕ → Float → Bool
 inLimit limit nan = false
 inLimit limit (inf s) = false

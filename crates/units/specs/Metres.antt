@@ -1,4 +1,4 @@
--- Document 01: "in f32 metres: the whole number divided by 10, rounded once. A Dubins direction is D/16,384, exact". Assumes nothing.
+-- Clauses 9.4, 9.5, 15.14, 18.7: whole numbers as f32 metres, and a direction's parts as f32. Assumes nothing.
 use mathlib.Core.Path.{_≡_}
 use mathlib.Core.Bool.{Bool, true, false, not}
 use Prim.Native.Nat.{ℕ}
@@ -22,7 +22,7 @@ directionPartOf x = quotientOf x 16384
 abbrev pub Exactly : Float → ℤ → ℕ → Type 0
 Exactly x z c = HasValue x (not (nonNeg z)) (natAbs z) c
 
--- "Commands are equal bit for bit": an f32 that is a finite number and not −0.0
+-- 15.14: an f32 that is a finite number and not −0.0
 pub record Plain (x : Float) : Type 0 where
   pub held : T (fits binary32 x)
   pub number : isNan x ≡ false

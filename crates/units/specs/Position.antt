@@ -1,4 +1,4 @@
--- The position of a fix. Refusal 13 of document 01: "a fix is NaN, infinite, or beyond 50,000 m (down 10,000 m)". Assumes nothing.
+-- Clauses 7.13, 9.1, 18.3: the position of a fix, or none. Assumes nothing.
 use mathlib.Core.Bool.{Bool, _&&_}
 use Rattle.conditions.specs.Choose.{choose}
 use Rattle.plane.specs.declared.Point.{Point}

@@ -1,4 +1,4 @@
-// Between f32 metres and whole decimetres, both ways, and directions as f32 (document 01, "One fix").
+// Between f32 metres and whole decimetres, both ways, and directions as f32 (docs/RULES.md, 9.1, 9.4 and 9.5).
 ghost use mathlib.Core.Path.{_≡_};
 ghost use Prim.Native.Nat.{_≤_};
 ghost use mathlib.Core.Bool.{not};

@@ -23,7 +23,7 @@ use Rattle.wpl.specs.Load.{recordsOf, partsOf, loadOf}
 use Rattle.wpl.specs.Note.{wantedOf, leftOf, noteIn, noteOf}
 use Rattle.wpl.proofs.LoadStepLaws.{load-steps}
 
--- "128 note: 1..32 bytes"
+-- 4.4: the longest note
 abbrev mostNote : ℕ
 mostNote = noteRow .high
 

@@ -1,4 +1,4 @@
--- Document 01: "Header, 11 bytes: 57 50 4C ("WPL"), version u16, serial u32, area length u16", and refusals 1 to 5. Assumes nothing.
+-- Clauses 1.6, 3.2, 6.1, 7.1 to 7.5: the header of a file, and refusals 1 to 5. Assumes nothing.
 use mathlib.Core.Bool.{Bool}
 use mathlib.Core.List.{List}
 use Prim.Native.Nat.{ℕ, _-_}
@@ -11,7 +11,7 @@ use Rattle.refusals.specs.Sweep.{Done, done}
 use Rattle.records.specs.Numbers.{u16At, u32At}
 use Rattle.records.specs.Gather.{headerLength}
 
--- "record area at most 8,192 bytes"
+-- 1.6
 abbrev pub mostArea : ℕ
 mostArea = 8192
 
@@ -27,11 +27,11 @@ serialOf f = u32At f 5
 unfoldable pub areaOf : List ℕ → ℕ
 areaOf f = u16At f 9
 
--- 5: "area length differs from the bytes after the header, or exceeds 8,192"
+-- 7.5: the length that is said is the length that is there, and allowed
 unfoldable pub areaFits : List ℕ → Bool
 areaFits f = both (eqb (areaOf f) (length f - headerLength)) (leb (areaOf f) mostArea)
 
--- 1: "under 11 bytes", 2: "mark differs", 3: "file version 0", 4: "serial 0", and 5
+-- 7.1 to 7.5, in this order
 unfoldable pub headerOf : List ℕ → Outcome Done
 headerOf f =
     check (leb headerLength (length f)) fileTooShort

@@ -1,5 +1,4 @@
--- Document 01: "A load checks in this order: reader version, 1, 2, 3, 4, 5; then the records from the first (6 or 7); then 8, 9; then all
--- pairs for 10, all corners for 11, all legs for 12 and 17." Assumes nothing.
+-- Clauses 3.4, 5.6, 6.1, 7.3, 8.5, 15.1, 15.2, 18.8: a load, in the order of its checks. Assumes nothing.
 use mathlib.Core.List.{List}
 use Prim.Native.Nat.{ℕ}
 use lib.ListN.{length, drop}
@@ -22,7 +21,7 @@ use Rattle.wpl.specs.declared.Loaded.{Loaded}
 use Rattle.wpl.specs.declared.Entered.{Entered}
 use Rattle.wpl.specs.Header.{versionOf, serialOf, headerOf}
 
--- "a file holds the records met from offset 11 by their own lengths"
+-- 3.4: the records behind the header
 unfoldable pub recordsOf : List ℕ → Walked
 recordsOf f = walk (drop headerLength f)
 
@@ -47,11 +46,11 @@ finishOf serial a =
 unfoldable pub bodyOf : ℕ → List ℕ → Outcome State
 bodyOf r f = andThen (partsOf r f) (λ (a : Parts). andThen (settleOf (recordsOf f) a) (finishOf (serialOf f)))
 
--- 3: "reader .. asked for a version outside 1..3"
+-- 7.3: the reader's version comes first of all
 unfoldable pub loadOf : ℕ → List ℕ → Outcome State
 loadOf r f = check (between 1 newest r) noVersion (andThen (headerOf f) (λ (_ : Done). bodyOf r f))
 
--- as the struct that `load` answers: "A refused load gives number, place and the empty state"
+-- 15.2: as the struct that `load` answers, the empty state with a refusal
 unfoldable pub loadedOf : Outcome State → Loaded
 loadedOf (good s) = record { refusal = 0; place = 0; state = s }
 loadedOf (refused number place) = record { refusal = number; place = place; state = emptyState }

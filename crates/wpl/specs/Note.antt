@@ -1,5 +1,4 @@
--- Document 01: "A note is shown as a part of the caller's file, by its number from 1; where the version-three reader refuses the file or there
--- is no such note, the part is empty." Assumes nothing.
+-- Clauses 5.3 to 5.5, 15.1, 17.14, 18.1: the notes of a file. Assumes nothing.
 use mathlib.Core.Bool.{Bool}
 use mathlib.Core.List.{List, []}
 use Prim.Native.Nat.{ℕ, _+_, _-_, _≤_}

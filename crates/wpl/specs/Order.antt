@@ -1,5 +1,5 @@
--- Files and writes with more than one fault, worked out by hand from document 01: the order of the checks, and each number and place. Assumes
--- nothing.
+-- Holds clauses 6.1, 6.2, 6.4, 7.1 to 7.17: files and writes with more than one fault, worked out by hand: the order of the checks, and each
+-- number and place. Assumes nothing.
 use mathlib.Core.Path.{_≡_}
 use mathlib.Core.List.{List, [], _∷_, _++_}
 use Prim.Native.Nat.{ℕ}
@@ -41,8 +41,7 @@ abbrev pub Refused : Fault → Type 0
 Refused (loadFault reader bytes number place) = loadOf reader bytes ≡ refused number place
 Refused (writeFault s version room number) = writeOf s version room ≡ refused number 0
 
--- "A load checks in this order: reader version, 1, 2, 3, 4, 5; then the records from the first (6 or 7); then 8, 9; then all pairs for 10, all
--- corners for 11, all legs for 12 and 17. The lowest place comes first". Each file has the fault of its number, and of numbers after it.
+-- 6.1 and 6.2. Each file has the fault of its number, and of numbers after it.
 abbrev pub loadOrder : List Fault
 loadOrder =
     loadFault 0 [] 3 0
@@ -62,7 +61,7 @@ loadOrder =
     ∷ loadFault 3 (headed 2 7 0 46 (byteRadius 200 ++ (bytePoint 0 0 ++ (bytePoint 100 0 ++ bytePoint 100 100)))) 12 2
     ∷ []
 
--- "A write checks 14, 3, 7, 16"
+-- 6.4, in the same way
 abbrev pub writeOrder : List Fault
 writeOrder =
     writeFault emptyState 0 0 14

@@ -1,5 +1,4 @@
--- Document 01 by demand 2: "what is written at a version that can carry it loads again, by every reader of that version or later, as that plan".
--- Assumes nothing.
+-- Clause 15.6: what is written loads again. Assumes nothing.
 use mathlib.Core.Path.{_≡_}
 use mathlib.Core.Bool.{true}
 use mathlib.Core.List.{List}
@@ -23,7 +22,7 @@ pub record RoundTrip (s : State) : Type 0 where
   pub loads : (version room reader : ℕ) (bytes : List ℕ) → writeOf s version room ≡ good bytes → version ≤ reader → reader ≤ newest
       → loadOf reader bytes ≡ good (startOf (s .plan))
 
--- "or later": what is written at version one, all three readers load
+-- what is written at version one, all three readers load
 abbrev pub EveryReader : State → Type 0
 EveryReader s =
     (room : ℕ) (bytes : List ℕ) → writeOf s 1 room ≡ good bytes

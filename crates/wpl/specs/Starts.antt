@@ -1,4 +1,4 @@
--- What a load owes whoever flies or writes what it gives. Assumes nothing.
+-- Clauses 8.3, 15.16: what a load owes whoever flies or writes what it gives. Assumes nothing.
 use mathlib.Core.Path.{_≡_}
 use mathlib.Core.Bool.{true}
 use mathlib.Core.List.{List}

@@ -1,5 +1,5 @@
--- Document 01: "A write checks 14, 3, 7, 16; where it succeeds it answers the file's length and changes only the file's bytes, refused it
--- answers length 0." Assumes nothing.
+-- Clauses 5.1, 5.2, 6.4, 6.5, 7.3, 7.7, 7.16, 8.3, 15.1, 15.4: a write: its checks in order, its answer, and the buffer afterwards. Assumes
+-- nothing.
 use mathlib.Core.List.{List}
 use Prim.Native.Nat.{ℕ}
 use lib.Dec.{leb}
@@ -23,8 +23,7 @@ carriedSince Lines = pointRow .since
 carriedSince Fillets = radiusRow .since
 carriedSince Dubins = courseRow .since
 
--- the file's bytes, for a buffer of a length. 3: "writer asked for a version outside 1..3"; 7: "writer: the plan needs a higher version"; 16:
--- "the writer's buffer is too short"
+-- 6.4: the file's bytes, for a buffer of a length; 7.3 of the version asked for, 7.7 of what the plan needs, 7.16 of the buffer
 unfoldable pub writeOf : State → ℕ → ℕ → Outcome (List ℕ)
 writeOf s version room =
     check (validOf s) noState

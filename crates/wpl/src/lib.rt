@@ -1,4 +1,4 @@
-// Plan files: load, write, and the notes of a file (document 01, "The plan file").
+// Plan files: load, write, and the notes of a file (docs/RULES.md, sections 5 and 6).
 use manager::Progress;
 use manager::State;
 use plan::Head;

@@ -1,5 +1,5 @@
 -- The examples of files, computed from the definitions. The checker takes the files by name, this one before all laws, so that a definition that
--- misses document 01 is refused by its example. Assumes nothing.
+-- misses the rules is refused by its example. Assumes nothing.
 use mathlib.Core.Path.{refl}
 use Rattle.conditions.specs.Choose.{choose}
 use Rattle.plan.specs.Places.{padded}

@@ -1,5 +1,5 @@
--- What the writer's definitions come to: document 01's own file byte for byte, and one with a radius and a course. A definition that is changed
--- together with the code that it describes is refused here. Assumes nothing.
+-- Holds clauses 3.2, 5.1: a file of three points byte for byte, and one with a radius and a course. A definition that is changed together with
+-- the code that it describes is refused here. Assumes nothing.
 use mathlib.Core.Path.{_≡_}
 use mathlib.Core.List.{List, [], _∷_, _++_}
 use Prim.Native.Nat.{ℕ}

@@ -1,5 +1,4 @@
--- Document 01: "The writer writes no optional records: header, radius if any, then each point followed by its course if it has one." Assumes
--- nothing.
+-- Clauses 3.2, 5.1, 18.6: the file of a plan. Assumes nothing.
 use mathlib.Core.List.{List, [], _∷_, _++_}
 use Prim.Native.Nat.{ℕ, zero, suc, _+_, _≤_}
 use lib.Dec.{eqb}
@@ -14,18 +13,18 @@ use Rattle.records.specs.Numbers.{u16Bytes, u32Bytes}
 use Rattle.records.specs.Walk.{Walked, end, more, flat}
 use Rattle.records.specs.Kinds.{pointRow, radiusRow, courseRow, pointBytes}
 
--- "Header, 11 bytes: 57 50 4C ("WPL"), version u16, serial u32, area length u16", before a record area
+-- 3.2: the header before a record area
 unfoldable pub withHeader : ℕ → ℕ → List ℕ → List ℕ
 withHeader version serial area =
     (0x57 ∷ 0x50 ∷ 0x4C ∷ []) ++ (u16Bytes version ++ (u32Bytes serial ++ (u16Bytes (length area) ++ area)))
 
--- each point followed by its course if it has one
+-- 5.1: a point, behind it its course where there is one, and the points after it
 unfoldable pub pointRecords : List Point → List ℕ → Walked
 pointRecords [] cs = end
 pointRecords (p ∷ ps) [] = more (pointRow .kind) (pointBytes p) (pointRecords ps [])
 pointRecords (p ∷ ps) (c ∷ cs) = more (pointRow .kind) (pointBytes p) (more (courseRow .kind) (u16Bytes c) (pointRecords ps cs))
 
--- radius if any: a radius of 0 stands for none
+-- 5.1: in front of them the radius; 0 stands for none
 unfoldable pub radiusRecord : ℕ → Walked → Walked
 radiusRecord R rest = choose (eqb R 0) rest (more (radiusRow .kind) (u16Bytes R) rest)
 

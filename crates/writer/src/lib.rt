@@ -1,4 +1,4 @@
-// The bytes of a plan file (document 01, "The plan file"): header, radius if any, then each point followed by its course if it has one.
+// The bytes of a plan file (docs/RULES.md, 5.1): the header, the radius, then the points, each with its course.
 use integers::ONE_BYTE;
 use integers::TWO_BYTES;
 use plan::Head;
@@ -171,7 +171,7 @@ fn put_place_at<'a>(
     put_place(point, aimed, course as u16, at, file)
 }
 
-// All points of a plan, each followed by its course if it has one.
+// All points of a plan, each with its course behind it where there is one.
 fn put_places<'a>(
     head: Head,
     norths: &'a [i32],

@@ -1,4 +1,4 @@
--- `sine` gives S[k], of the table that has document 01's facts. Assumes nothing.
+-- `sine` gives S[k], of the table of which 2.2 and 2.5 hold. Assumes nothing.
 use borrow.Author.Needs.{needs}
 use Rattle.course.proofs.TableLaws.{are-sines}
 use Rattle.course.proofs.DirectionLaws.{table-facts}

@@ -1,4 +1,4 @@
--- `has_path` decides whether any case exists, and each does exactly when document 01 says. Assumes nothing.
+-- `has_path` decides whether any case exists, and each does exactly when 12.3 and 12.4 say. Assumes nothing.
 use mathlib.Core.Path.{_≡_, sym, _∙_}
 use mathlib.Core.Bool.{false}
 use borrow.Author.Needs.{needs}
