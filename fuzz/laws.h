@@ -1,4 +1,4 @@
-/* What document 01, its requests and the header say of every file, state and fix, as far as it can be held without a second implementation. */
+/* What the rules (docs/RULES.md) and the header say of every file, state and fix, as far as it can be held without a second implementation. */
 #ifndef LAWS_H
 #define LAWS_H
 

@@ -220,7 +220,7 @@ static void corner(uint32_t radius, int32_t east)
     close_area();
 }
 
-/* Document 01's leg from (0, 0) course 0 to (0, 1000) course 2048 with radius 100, and one back to course 0 behind it. */
+/* The checked examples' leg from (0, 0) course 0 to (0, 1000) course 2048 with radius 100, and one back to course 0 behind it. */
 static void dubins(uint32_t last)
 {
     begin(3, 7);

@@ -22,7 +22,7 @@ static void broken(int line, const char *fact)
 
 /* ---- a plan file */
 
-/* The corner of document 01's example, with a radius and courses or without. */
+/* The corner of the checked examples (docs/RULES.md, section 19), with a radius and courses or without. */
 static void corner(int mode)
 {
     const int parts[][3] = {{0, 0, -10}, {1000, 0, -20}, {1000, 1000, -30}};

@@ -1,6 +1,6 @@
-"""Tables of expected answers, and what of document 01's own the requests have left standing.
+"""Tables of expected answers, and what of those for the first rules the requests have left standing.
 
-A corpus folder answers for document 01; `requests/NN` below it for a request, which decides where the two differ.
+A corpus folder answers for the rules as they were at first; `requests/NN` below it for a request, which decides where the two differ.
 """
 
 LAST_LEG = "requests/04"  # "Fly the last leg": flights and states of lines and fillets

@@ -2,7 +2,7 @@
  * and place of a check. A line for a check or a count that lends another number of words than it needs: what was lent, the result, and every word
  * (- where it was not written). A line for each file whose notes are counted: the name, "has", and how many. A line for each file and note: the
  * name, the note's number, the result, the answer and the lent buffer, which held a dot at every byte.
- * Every file is written out below; what is expected is read off document 01's tables and its sentence on notes. */
+ * Every file is written out below; what is expected is read off the rules: docs/RULES.md, sections 4, 5 and 7. */
 #include "../plan.h"
 #include "farnkuppel.h"
 
