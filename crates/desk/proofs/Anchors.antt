@@ -4,11 +4,11 @@ use Rattle.integers.specs.Choose.{choose}
 use Rattle.refusals.specs.Sweep.{both}
 use Rattle.c_answer.specs.Words.{wordOf}
 use Rattle.wpl.specs.Load.{loadedOf}
-use Rattle.desk.specs.Calls.{callResult, noteFits, noteBuffer, noteAnswer, checkFits, checkAnswer, notesFits, notesAnswer}
-use Rattle.desk.specs.Example.{NoteExample, CheckExample, CountExample}
+use Rattle.desk.specs.Calls.{callResult, wordsFit, wordsAnswer, noteFits, noteBuffer, noteAnswer}
+use Rattle.desk.specs.Example.{NoteExample, WordsExample}
 
 pub in-numbers : NoteExample
-unfolding choose both callResult noteFits noteBuffer noteAnswer
+unfolding choose both callResult wordsAnswer noteFits noteBuffer noteAnswer
 in-numbers =
     record {
       enough = refl;
@@ -21,10 +21,7 @@ in-numbers =
       kept = (refl, refl);
     }
 
-pub check-in-numbers : CheckExample
-unfolding choose checkFits checkAnswer loadedOf wordOf
-check-in-numbers = record { enough = refl; short = refl; told = refl; kept = refl }
-
-pub count-in-numbers : CountExample
-unfolding choose notesFits notesAnswer
-count-in-numbers = record { enough = refl; short = refl; told = refl; kept = refl }
+pub words-in-numbers : WordsExample
+unfolding choose wordsFit wordsAnswer loadedOf wordOf
+words-in-numbers =
+    record { two = refl; not-two = refl; one = refl; not-one = refl; checked = refl; counted = refl; kept = refl }

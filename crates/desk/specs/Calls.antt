@@ -13,9 +13,18 @@ use Rattle.records.specs.Kinds.{noteRow}
 use Rattle.c_answer.specs.Words.{wordOf}
 use Rattle.wpl.specs.declared.Loaded.{Loaded}
 
--- what a call returns, by whether the lent slices are long enough
+-- ---- any call
+-- what it returns, by whether the lent slices are long enough
 unfoldable pub callResult : Bool → ℕ
 callResult fits = choose fits 0 misfit
+
+-- an answer of at least so many words
+unfoldable pub wordsFit : ℕ → List ℕ → Bool
+wordsFit least answer = leb least (length answer)
+
+-- the words at the front of the answer, and the rest of it as it was
+unfoldable pub wordsAnswer : Bool → List ℕ → List ℕ → List ℕ
+wordsAnswer fits words answer = choose fits (over words answer) answer
 
 -- ---- a note
 -- "128 note: 1..32 bytes"
@@ -32,18 +41,8 @@ noteBuffer fits note buffer = choose fits (over note buffer) buffer
 
 -- how many they are
 unfoldable pub noteAnswer : Bool → List ℕ → List ℕ → List ℕ
-noteAnswer fits note answer = choose fits (over (length note ∷ []) answer) answer
+noteAnswer fits note answer = wordsAnswer fits (length note ∷ []) answer
 
 -- ---- a check: the refusal of a load, 0 for none, and its place
-unfoldable pub checkFits : List ℕ → Bool
-checkFits answer = leb 2 (length answer)
-
-unfoldable pub checkAnswer : Bool → Loaded → List ℕ → List ℕ
-checkAnswer fits x answer = choose fits (over (x .refusal ∷ wordOf (x .place) ∷ []) answer) answer
-
--- ---- how many notes there are
-unfoldable pub notesFits : List ℕ → Bool
-notesFits answer = leb 1 (length answer)
-
-unfoldable pub notesAnswer : Bool → ℕ → List ℕ → List ℕ
-notesAnswer fits count answer = choose fits (over (count ∷ []) answer) answer
+abbrev pub checkWords : Loaded → List ℕ
+checkWords x = x .refusal ∷ wordOf (x .place) ∷ []

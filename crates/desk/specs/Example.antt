@@ -6,7 +6,7 @@ use mathlib.Core.List.{List, [], _∷_}
 use Prim.Native.Nat.{ℕ}
 use Rattle.refusals.specs.Outcome.{refused}
 use Rattle.wpl.specs.Load.{loadedOf}
-use Rattle.desk.specs.Calls.{callResult, noteFits, noteBuffer, noteAnswer, checkFits, checkAnswer, notesFits, notesAnswer}
+use Rattle.desk.specs.Calls.{callResult, wordsFit, wordsAnswer, noteFits, noteBuffer, noteAnswer, checkWords}
 
 -- a note, the buffer and the answer
 abbrev pub note : List ℕ
@@ -30,17 +30,13 @@ pub record NoteExample : Type 0 where
   pub refused : callResult false ≡ 100
   pub kept : (noteBuffer false note buffer ≡ buffer) × (noteAnswer false note answer ≡ answer)
 
--- the answer holds 8, 9, 10 before, and is cut to two words, to one or to none
-pub record CheckExample : Type 0 where
-  pub enough : checkFits (8 ∷ 9 ∷ []) ≡ true
-  pub short : checkFits (8 ∷ []) ≡ false
-  -- refused 6 at 25
-  pub told : checkAnswer true (loadedOf (refused 6 25)) answer ≡ 6 ∷ 25 ∷ 10 ∷ []
-  pub kept : checkAnswer false (loadedOf (refused 6 25)) answer ≡ answer
-
-pub record CountExample : Type 0 where
-  pub enough : notesFits (8 ∷ []) ≡ true
-  pub short : notesFits [] ≡ false
-  -- four notes
-  pub told : notesAnswer true 4 answer ≡ 4 ∷ 9 ∷ 10 ∷ []
-  pub kept : notesAnswer false 4 answer ≡ answer
+pub record WordsExample : Type 0 where
+  -- a check takes two words, a count of notes one
+  pub two : wordsFit 2 (8 ∷ 9 ∷ []) ≡ true
+  pub not-two : wordsFit 2 (8 ∷ []) ≡ false
+  pub one : wordsFit 1 (8 ∷ []) ≡ true
+  pub not-one : wordsFit 1 [] ≡ false
+  -- refused 6 at 25; four notes; and an answer that is too short
+  pub checked : wordsAnswer true (checkWords (loadedOf (refused 6 25))) answer ≡ 6 ∷ 25 ∷ 10 ∷ []
+  pub counted : wordsAnswer true (4 ∷ []) answer ≡ 4 ∷ 9 ∷ 10 ∷ []
+  pub kept : wordsAnswer false (4 ∷ []) answer ≡ answer

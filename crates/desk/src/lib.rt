@@ -1,13 +1,14 @@
 // The desk's check of a plan file and the notes of one, for C (document 01: "The desk's C program gets the refusal number of a file for a reader
 // version, 0 if it loads"). The header is include/farnkuppel.h.
 ghost use mathlib.Core.Path.{_≡_};
+ghost use mathlib.Core.List.{[], _∷_};
 ghost use Prim.Native.Nat.{_≤_};
 ghost use lib.ListN.{length};
 ghost use Rattle.c_answer.specs.Words.{interface};
 ghost use Rattle.wpl.specs.Load.{loadOf, loadedOf};
 ghost use Rattle.wpl.specs.Note.{noteOf, notesOf, Numbered};
-ghost use Rattle.desk.specs.Calls.{callResult, mostNote, noteFits, noteBuffer, noteAnswer, checkFits, checkAnswer, notesFits, notesAnswer};
-ghost use Rattle.desk.specs.Example.{NoteExample, CheckExample, CountExample};
+ghost use Rattle.desk.specs.Calls.{callResult, wordsFit, wordsAnswer, mostNote, noteFits, noteBuffer, noteAnswer, checkWords};
+ghost use Rattle.desk.specs.Example.{NoteExample, WordsExample};
 
 // The most bytes of a note.
 const MOST_NOTE: usize = records::NOTE.high;
@@ -39,9 +40,9 @@ pub extern "C" fn farnkuppel_refusal(file: &[u8], reader: u32) -> u32
 // The same with the place of the refusal.
 #[no_mangle]
 pub extern "C" fn farnkuppel_check(file: &[u8], reader: u32, answer: &mut [u32]) -> u32
-    ensures { λ r. ⌜ r ≡ callResult (checkFits (now (answer .entry))) ⌝ }
-    ensures { λ _. ⌜ now (answer .exit) ≡ checkAnswer (checkFits (now (answer .entry))) (loadedOf (loadOf reader (now (file .entry)))) (now (answer .entry)) ⌝ }
-    ensures { λ _. ⌜ CheckExample ⌝ }
+    ensures { λ r. ⌜ r ≡ callResult (wordsFit 2 (now (answer .entry))) ⌝ }
+    ensures { λ _. ⌜ now (answer .exit) ≡ wordsAnswer (wordsFit 2 (now (answer .entry))) (checkWords (loadedOf (loadOf reader (now (file .entry))))) (now (answer .entry)) ⌝ }
+    ensures { λ _. ⌜ WordsExample ⌝ }
 {
     if answer.len() < CHECK {
         return refusals::MISFIT as u32;
@@ -86,9 +87,9 @@ pub extern "C" fn farnkuppel_note(
 // How many notes a file has: none where the newest reader refuses it.
 #[no_mangle]
 pub extern "C" fn farnkuppel_notes(file: &[u8], answer: &mut [u32]) -> u32
-    ensures { λ r. ⌜ r ≡ callResult (notesFits (now (answer .entry))) ⌝ }
-    ensures { λ _. ⌜ now (answer .exit) ≡ notesAnswer (notesFits (now (answer .entry))) (notesOf (now (file .entry))) (now (answer .entry)) ⌝ }
-    ensures { λ _. ⌜ Numbered (now (file .entry)) × CountExample ⌝ }
+    ensures { λ r. ⌜ r ≡ callResult (wordsFit 1 (now (answer .entry))) ⌝ }
+    ensures { λ _. ⌜ now (answer .exit) ≡ wordsAnswer (wordsFit 1 (now (answer .entry))) (notesOf (now (file .entry)) ∷ []) (now (answer .entry)) ⌝ }
+    ensures { λ _. ⌜ Numbered (now (file .entry)) × WordsExample ⌝ }
 {
     if answer.len() < NOTES {
         return refusals::MISFIT as u32;

@@ -1,9 +1,10 @@
 -- `farnkuppel_check` hands on the number and the place of a load, or writes nothing where the answer is too short. Assumes nothing.
 use mathlib.Core.Path.{ap, _∙_}
+use mathlib.Core.List.{[], _∷_}
 use borrow.Author.Needs.{needs}
 use Rattle.c_answer.specs.Words.{wordOf}
-use Rattle.desk.proofs.Anchors.{check-in-numbers}
-use Rattle.desk.proofs.CallLaws.{unfit-result, fit-result, check-short, check-long, check-kept, check-told}
+use Rattle.desk.proofs.Anchors.{words-in-numbers}
+use Rattle.desk.proofs.CallLaws.{words-short, words-long, tell-unfit, tell-fit}
 use Rattle.desk.proofs.farnkuppel_check.Statement.{statement}
 use Rattle.desk.proofs.farnkuppel_check.Tie as tie
 
@@ -12,8 +13,8 @@ cast-result c = search needs
 
 returns : tie.Need-returns
 returns c =
-    let u = check-short _ (c .if1 .taken) in
-    (unfit-result _ u, (check-kept _ _ _ u, check-in-numbers))
+    let t = tell-unfit _ _ _ (words-short 2 _ (c .if1 .taken)) in
+    (t .result, (t .told, words-in-numbers))
 
 refusal-requires : tie.Need-refusal-requires
 refusal-requires c κs = search needs
@@ -38,9 +39,10 @@ returns-2 c =
     let p = c .before .before in
     let w = p .before .before .before in
     let r = w .before .before in
-    let f = check-long _ (r .before .if1 .left) in
+    let number = r .refusal .ensures .0 in
     let place = w .word .ensures ∙ ap wordOf (r .refusal .ensures .1) in
-    (fit-result _ f, (check-told _ _ _ f _ _ _ (r .refusal .ensures .0) place (p .put-words .ensures), check-in-numbers))
+    let t = tell-fit _ _ _ (words-long 2 _ (r .before .if1 .left)) _ _ (λ i. number i ∷ place i ∷ []) (p .put-words .ensures) in
+    (t .result, (t .told, words-in-numbers))
 
 pub farnkuppel-check-spec : {M : Type 1} → statement M
 farnkuppel-check-spec =
