@@ -16,19 +16,11 @@ pub type State = [i32; size::STATE_WORDS];
 pub type Answer = [u32; size::ANSWER_WORDS];
 pub type Command = [f32; size::COMMAND_NUMBERS];
 
-/// Where a line's numbers stand in a command: the north, east and down of its start, then of its direction.
-pub const LINE: [usize; 6] = [
-    size::LINE_START_NORTH,
-    size::LINE_START_EAST,
-    size::LINE_START_DOWN,
-    size::LINE_DIRECTION_NORTH,
-    size::LINE_DIRECTION_EAST,
-    size::LINE_DIRECTION_DOWN,
-];
-
-/// Where a circle's stand: the north, east and down of its centre, then its radius.
-pub const CIRCLE: [usize; 4] =
-    [size::CIRCLE_CENTRE_NORTH, size::CIRCLE_CENTRE_EAST, size::CIRCLE_CENTRE_DOWN, size::CIRCLE_RADIUS];
+/// Where the north, east and down of a line's start and direction stand in a command, and of a circle's centre.
+pub const LINE_START: [usize; 3] = [size::LINE_START_NORTH, size::LINE_START_EAST, size::LINE_START_DOWN];
+pub const LINE_DIRECTION: [usize; 3] =
+    [size::LINE_DIRECTION_NORTH, size::LINE_DIRECTION_EAST, size::LINE_DIRECTION_DOWN];
+pub const CIRCLE_CENTRE: [usize; 3] = [size::CIRCLE_CENTRE_NORTH, size::CIRCLE_CENTRE_EAST, size::CIRCLE_CENTRE_DOWN];
 
 /// A refusal in words. A number that the header lacks cannot come from archives of its interface.
 pub fn refusal_words(number: u32) -> &'static str {

@@ -2,7 +2,7 @@
 
 use archive::size::COMMAND_NUMBERS;
 use archive::{number, size};
-use archive::{Answer as AnswerWords, Command as CommandNumbers, CIRCLE, LINE};
+use archive::{Answer as AnswerWords, Command as CommandNumbers, CIRCLE_CENTRE, LINE_DIRECTION, LINE_START};
 use reference::{Answer, Command, Mode, State};
 use std::fmt::UpperHex;
 
@@ -83,25 +83,35 @@ pub fn to_state(words: &Words) -> Option<State> {
     Some(state)
 }
 
-/// A command with numbers at their places, and 0 elsewhere.
-fn placed<const N: usize>(places: [usize; N], numbers: [f32; N]) -> CommandNumbers {
-    let mut command = [0.0; COMMAND_NUMBERS];
+fn place(command: &mut CommandNumbers, places: [usize; 3], numbers: [f32; 3]) {
     for (place, number) in places.into_iter().zip(numbers) {
         command[place] = number;
     }
-    command
+}
+
+/// A command's numbers, 0 where it has none.
+fn numbers_of(command: &Command) -> CommandNumbers {
+    let mut numbers = [0.0; COMMAND_NUMBERS];
+    match *command {
+        Command::None => {}
+        Command::Line { start, direction } => {
+            place(&mut numbers, LINE_START, start);
+            place(&mut numbers, LINE_DIRECTION, direction);
+        }
+        Command::Circle { centre, radius, .. } => {
+            place(&mut numbers, CIRCLE_CENTRE, centre);
+            numbers[size::CIRCLE_RADIUS] = radius;
+        }
+    }
+    numbers
 }
 
 pub fn of_answer(answer: &Answer) -> (AnswerWords, CommandNumbers) {
     let (refusal, place) = answer.refusal.map_or((number::ACCEPTED, 0), |r| (r.number, r.place));
-    let (kind, sense, command) = match answer.command {
-        Command::None => (number::COMMAND_NONE, number::SENSE_NONE, [0.0; COMMAND_NUMBERS]),
-        Command::Line { start: s, direction: d } => {
-            (number::COMMAND_LINE, number::SENSE_NONE, placed(LINE, [s[0], s[1], s[2], d[0], d[1], d[2]]))
-        }
-        Command::Circle { centre: c, radius, sense } => {
-            (number::COMMAND_CIRCLE, sense as u32, placed(CIRCLE, [c[0], c[1], c[2], radius]))
-        }
+    let (kind, sense) = match answer.command {
+        Command::None => (number::COMMAND_NONE, number::SENSE_NONE),
+        Command::Line { .. } => (number::COMMAND_LINE, number::SENSE_NONE),
+        Command::Circle { sense, .. } => (number::COMMAND_CIRCLE, sense as u32),
     };
     let mut words = progress_words(answer.index, answer.phase, u32::from(answer.finished));
     for (place, word) in [
@@ -113,7 +123,7 @@ pub fn of_answer(answer: &Answer) -> (AnswerWords, CommandNumbers) {
     ] {
         words[place] = word;
     }
-    (words, command)
+    (words, numbers_of(&answer.command))
 }
 
 /// An answer's words with an index, a phase and finished, and 0 elsewhere.

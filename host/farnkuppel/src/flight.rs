@@ -5,9 +5,9 @@ use crate::plan::{Plan, Refusal};
 use archive::number::{ACCEPTED, COMMAND_CIRCLE, COMMAND_LINE};
 use archive::size::{
     ANSWER_FINISHED, ANSWER_HEADING, ANSWER_INDEX, ANSWER_KIND, ANSWER_PHASE, ANSWER_PLACE, ANSWER_REFUSAL,
-    ANSWER_SENSE, ANSWER_WORDS, COMMAND_NUMBERS,
+    ANSWER_SENSE, ANSWER_WORDS, CIRCLE_RADIUS, COMMAND_NUMBERS,
 };
-use archive::{calls, refusal_words, Answer, Command, State, CIRCLE, LINE};
+use archive::{calls, refusal_words, Answer, Command, State, CIRCLE_CENTRE, LINE_DIRECTION, LINE_START};
 
 /// What a fix was answered.
 pub struct Answered {
@@ -15,11 +15,11 @@ pub struct Answered {
     numbers: Command,
 }
 
-/// A command in metres: the start and direction of a line, or the centre and radius of a circle.
+/// A command in metres, each place and direction by its north, east and down.
 pub enum Path {
     Nothing,
-    Line([f32; 6]),
-    Circle([f32; 4]),
+    Line { start: [f32; 3], direction: [f32; 3] },
+    Circle { centre: [f32; 3], radius: f32 },
 }
 
 /// How the numbers of a command are written.
@@ -60,9 +60,10 @@ impl Answered {
     }
 
     pub fn path(&self) -> Path {
+        let part = |places: [usize; 3]| places.map(|place| self.numbers[place]);
         match self.words[ANSWER_KIND] {
-            COMMAND_LINE => Path::Line(LINE.map(|place| self.numbers[place])),
-            COMMAND_CIRCLE => Path::Circle(CIRCLE.map(|place| self.numbers[place])),
+            COMMAND_LINE => Path::Line { start: part(LINE_START), direction: part(LINE_DIRECTION) },
+            COMMAND_CIRCLE => Path::Circle { centre: part(CIRCLE_CENTRE), radius: self.numbers[CIRCLE_RADIUS] },
             _ => Path::Nothing,
         }
     }
@@ -91,9 +92,11 @@ impl Answered {
         }
         let command = match self.path() {
             Path::Nothing => "nothing".to_string(),
-            Path::Line(line) => format!("line{}", listed(&line, numbers)),
-            Path::Circle(circle) => {
-                format!("circle{} sense {}", listed(&circle, numbers), self.sense())
+            Path::Line { start, direction } => {
+                format!("line{}{}", listed(&start, numbers), listed(&direction, numbers))
+            }
+            Path::Circle { centre, radius } => {
+                format!("circle{}{} sense {}", listed(&centre, numbers), listed(&[radius], numbers), self.sense())
             }
         };
         format!("{command} heading {}", self.heading())

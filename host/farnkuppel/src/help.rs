@@ -69,9 +69,9 @@ The exit status is 0 where the plan loads, whatever its fixes are answered. A FI
 ";
 
 pub const SIMULATE: &str = "\
-Flies a simulated aircraft along PLAN, from its first point until the plan is finished, and writes the fixes, ten a second, to FIXES.
-The answer says whether it was finished: a flight ends early where the aircraft leaves the range of fixes, and is given up after eight
-times the length of the plan's legs. The exit status is 0 all the same.
+Flies a simulated aircraft along PLAN, from its first point until the plan is finished, and writes its fixes to FIXES. The answer says
+whether the plan was finished: a flight ends early where the aircraft leaves the range of fixes, and is given up after many times the
+length of the plan's legs. The exit status is 0 all the same.
 
   --refused     puts fixes among them that are refused: some name another plan, some have a north that is no number
 ";

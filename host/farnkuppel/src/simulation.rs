@@ -51,9 +51,9 @@ pub struct Simulated {
 fn height(path: &Path, plane: &Aircraft) -> f64 {
     match path {
         Path::Nothing => plane.down,
-        Path::Circle(circle) => f64::from(circle[2]),
-        Path::Line(line) => {
-            let [north, east, down, by_north, by_east, by_down] = line.map(f64::from);
+        Path::Circle { centre: [_, _, down], .. } => f64::from(*down),
+        Path::Line { start, direction } => {
+            let ([north, east, down], [by_north, by_east, by_down]) = (start.map(f64::from), direction.map(f64::from));
             let along = (plane.north - north) * by_north + (plane.east - east) * by_east;
             let part = along / (by_north * by_north + by_east * by_east);
             down + by_down * part.clamp(0.0, 1.0)

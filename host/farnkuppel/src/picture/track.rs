@@ -42,16 +42,16 @@ impl Track {
                 continue;
             }
             track.steps.push(Step { place, phase: answer.phase() });
-            if let Path::Circle(numbers) = answer.path() {
-                track.note_circle(numbers);
+            if let Path::Circle { centre: [north, east, _], radius } = answer.path() {
+                let centre = Place { north: f64::from(north), east: f64::from(east) };
+                track.keep(Circle { centre, radius: f64::from(radius) });
             }
         }
         track
     }
 
-    fn note_circle(&mut self, numbers: [f32; 4]) {
-        let [north, east, _, radius] = numbers.map(f64::from);
-        let circle = Circle { centre: Place { north, east }, radius };
+    /// Keeps a circle that was not there yet.
+    fn keep(&mut self, circle: Circle) {
         if !self.circles.contains(&circle) {
             self.circles.push(circle);
         }
