@@ -1,9 +1,7 @@
 //! Each call made twice, by the reference and by the compiled manager, and every word compared.
 
 use crate::notes::Notes;
-use compiled::calls::{
-    self, ANSWER_WORDS, CHECK_WORDS, COMMAND_NUMBERS, LOAD_WORDS, MISFIT, NOTES_WORDS, WRITE_WORDS,
-};
+use compiled::calls::{self, ANSWER_WORDS, CHECK_WORDS, COMMAND_NUMBERS, LOAD_WORDS, MISFIT, NOTES_WORDS, WRITE_WORDS};
 use compiled::words::{self, hex_of_bytes, hex_of_words, Words, SERIAL, STATE_WORDS};
 use reference::{load, write, State};
 
@@ -57,10 +55,7 @@ impl Tally {
         let mut answer = [PATTERN; LOAD_WORDS + 1];
         let result = calls::load(file, reader, &mut state, &mut answer);
         let mut checked = [PATTERN; CHECK_WORDS + 1];
-        let desk = (
-            calls::refusal(file, reader),
-            calls::check(file, reader, &mut checked),
-        );
+        let desk = (calls::refusal(file, reader), calls::check(file, reader, &mut checked));
         self.loads += 1;
         self.load_refusals[number as usize] += 1;
         let desk_agrees = (desk, checked) == ((number, number), answer_wanted);

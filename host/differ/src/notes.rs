@@ -102,10 +102,7 @@ fn compare_count(tally: &mut Tally, case: Case, file: &[u8], words: usize) {
     tally.notes.most = tally.notes.most.max(count);
     if (result, answer) != (result_wanted, answer_wanted) {
         let file = hex_of_bytes(file);
-        tally.disagree(
-            case,
-            format!("notes {count} words {words} compiled {result} {answer:?} file {file}"),
-        );
+        tally.disagree(case, format!("notes {count} words {words} compiled {result} {answer:?} file {file}"));
     }
 }
 
