@@ -1,8 +1,8 @@
 #!/usr/bin/env bash
 # Lists a plan, flies a simulated aircraft along it to its end, and draws the flight.
 #   example/flight.sh [PLAN [PICTURE]]    without them samples/fillets.wpl and target/flight.svg
-# The first run proves the crates that it needs and builds the command farnkuppel; later ones take about a second. Needs the Rattle toolchain (rt)
-# and cargo. Exit status: 0 drawn; 1 the plan is refused, or a crate is not proved; 2 usage or file trouble.
+# The first run proves the crates that it needs and builds the command farnkuppel; later ones take about a second. Needs the Rattle toolchain (rt),
+# cargo and objcopy (binutils). Exit status: 0 drawn; 1 the plan is refused, or a crate is not proved; 2 usage or file trouble.
 set -euo pipefail
 root=$(cd "$(dirname "$0")/.." && pwd)
 
@@ -20,6 +20,7 @@ at=$root/
 if [ "$PWD" -ef "$root" ]; then at=; fi
 plan=${1-${at}samples/fillets.wpl}
 picture=${2-${at}target/flight.svg}
+[ -n "$plan" ] || stop "'' names no plan"
 [ -e "$plan" ] || stop "$plan: there is no such file"
 [ ! -d "$plan" ] || stop "$plan: is a directory, and no plan"
 [ -r "$plan" ] || stop "$plan: cannot be read"
@@ -30,7 +31,9 @@ mkdir -p "$root/target"
 folder=$(dirname -- "$picture")
 [ -d "$folder" ] || stop "$picture: its folder is not there"
 [ -w "$folder" ] || stop "$picture: its folder cannot be written to"
-[ ! "$picture" -ef "$plan" ] || stop "$picture: is the plan, and is not written over"
+for made in "$picture" "$root/target/flight.fixes" "$root/target/flight.txt"; do
+    [ ! "$made" -ef "$plan" ] || stop "$made: is the plan, and is not written over"
+done
 for tool in rt cargo objcopy; do
     command -v "$tool" > /dev/null || stop "$tool is not installed"
 done
@@ -43,7 +46,7 @@ else
 fi
 "$root/tools/archives"
 [ -x "$farnkuppel" ] || echo "flight.sh: building the command farnkuppel, some seconds"
-cargo build --manifest-path "$root/host/Cargo.toml" --offline --release --quiet -p farnkuppel
+cargo build --manifest-path "$root/host/Cargo.toml" --offline --release --quiet -p farnkuppel || stop "the command farnkuppel could not be built"
 
 "$farnkuppel" list -- "$plan"
 fixes=${at}target/flight.fixes

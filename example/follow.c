@@ -59,7 +59,9 @@ static struct aircraft over_first_point(const int32_t *state)
 
 static void show(unsigned seconds, const struct aircraft *plane, const struct farnkuppel_answer *answer)
 {
-    double degrees = fmod(plane->heading * 360 / circle + 720, 360);
+    double degrees = fmod(plane->heading, circle) * 360 / circle;
+    if (degrees < 0)
+        degrees += 360;
     printf("%u %.1f %.1f %.1f %.0f index %" PRIu32 " phase %" PRIu32 "\n", seconds, plane->north, plane->east, plane->down, degrees,
            answer->index, answer->phase);
 }
@@ -120,9 +122,13 @@ int main(int count, char **words)
         fprintf(stderr, "follow: the archive has another interface than its header\n");
         return 2;
     }
-    long length = count == 2 ? read_file(words[1], file, sizeof file) : -1;
+    if (count != 2) {
+        fprintf(stderr, "usage: follow PLAN\n");
+        return 2;
+    }
+    long length = read_file(words[1], file, sizeof file);
     if (length < 0) {
-        fprintf(stderr, count == 2 ? "follow: cannot read the plan\n" : "usage: follow PLAN\n");
+        fprintf(stderr, "follow: cannot read %s\n", words[1]);
         return 2;
     }
     uint32_t refusal =

@@ -1,7 +1,7 @@
 /* The path manager, for C99 and C++.
  *
- * rt staticlib autopilot    writes target/staticlib/libautopilot.a: load, fix and write
- * rt staticlib desk         writes target/staticlib/libdesk.a: the refusal of a file, and its notes
+ * libautopilot.a has load, fix and write; libdesk.a has the refusal of a file, and its notes. tools/archives makes both, in target/staticlib, and
+ * tools/install puts them with this header under a prefix.
  *
  * Both are for x86-64 under Linux, by the System V calling convention. They need memset, as the C library has it, and no other symbol.
  *

@@ -1,5 +1,5 @@
--- Clauses 17.1 to 17.3, 17.5: the calls of an autopilot: what each answers, and what the caller's memory holds afterwards, by the definitions of
--- a load, a fix and a write. Assumes nothing.
+-- Clauses 17.1 to 17.5: the calls of an autopilot: what each answers, and what the caller's memory holds afterwards, by the definitions of a
+-- load, a fix and a write. Assumes nothing.
 use mathlib.Core.Bool.{Bool}
 use mathlib.Core.List.{List, [], _∷_}
 use Prim.Native.Nat.{ℕ}
@@ -83,7 +83,7 @@ fixAnswer fits ws serial fix answer = choose fits (over (fixWords (takenOf ws) w
 unfoldable pub fixCommand : Bool → List ℤ → ℕ → Fix → List Float → List Float
 fixCommand fits ws serial fix command = choose fits (over (fixNumbers (takenOf ws) serial fix) command) command
 
--- ---- write: refusal, place, length
+-- ---- 17.3: write; refusal, place, length
 unfoldable pub writeFrom : List ℤ → ℕ → ℕ → Outcome (List ℕ)
 writeFrom ws version room = andThen (takenOf ws) (λ (s : State). writeOf s version room)
 

@@ -17,7 +17,7 @@ use Rattle.autopilot.specs.Calls.{loadResult, loadState}
 use Rattle.autopilot.specs.Held.{Hold}
 use Rattle.autopilot.specs.CallList.{Call, replies, wordsInTheEnd, fixesOf, repliesOf}
 
--- a state's words that a load was not refused for
+-- a buffer after a load into it, refused or not
 abbrev pub loadedBy : ℕ → List ℕ → List ℤ → List ℤ
 loadedBy r f buffer = loadState true (loadedOf (loadOf r f)) buffer
 

@@ -1,5 +1,5 @@
--- Clauses 17.9, 17.11: the number of the interface, an answer as eight words and a command as six numbers, as they are handed to a caller's
--- slices. Assumes nothing.
+-- Clauses 17.9, 17.11, 18.10: the number of the interface, an answer as eight words and a command as six numbers, as they are handed to a
+-- caller's slices. Assumes nothing.
 use mathlib.Core.Bool.{Bool, true, false}
 use mathlib.Core.List.{List, [], _∷_}
 use Prim.Native.Nat.{ℕ, _%_}

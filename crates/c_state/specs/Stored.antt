@@ -1,5 +1,5 @@
--- Clauses 17.4, 17.6: a state as C sees it: signed words of 32 bits at fixed places, seven that hold numbers with no sign by their bits, then a
--- block for each kind of number of the plan. Assumes nothing.
+-- Clauses 17.4, 17.6, 18.10: a state as C sees it: signed words of 32 bits at fixed places, seven that hold numbers with no sign by their bits,
+-- then a block for each kind of number of the plan. Assumes nothing.
 use mathlib.Core.Bool.{Bool}
 use mathlib.Core.List.{List, [], _∷_, _++_, map}
 use Prim.Native.Nat.{ℕ, _+_, _≤_, _<_}

@@ -77,7 +77,7 @@ pub record Reached (a b t : ℕ) : Type 0 where
   pub from : 1 ≤ t → edgeEast t * a ≤ edgeNorth t * b
   pub upto : t < 1024 → edgeNorth (suc t) * b < edgeEast (suc t) * a
 
--- r is the bearing of v: the twin's value, and the predicate of 2.6 with no other number meeting it. D(k) itself bears k.
+-- r is the bearing of v: the value of bearingOf, and the only number that meets 2.6. D(k) itself bears k.
 pub record Bears (v : Vector) (r : ℕ) : Type 0 where
   pub value : r ≡ bearingOf v
   pub low : r < 4096

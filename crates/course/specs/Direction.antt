@@ -23,7 +23,7 @@ directionOf k = turned (k / 1024) (plain (sineOf (1024 - k % 1024)) (sineOf (k %
 abbrev pub NeverFalls : Type 0
 NeverFalls = (k : ℕ) → k < 1024 → sineOf k ≤ sineOf (suc k)
 
--- 2.5: how far a direction lies from the next one, of every k
+-- 2.5: the least that the cross product with the next direction is, of every k
 abbrev pub Apart : Type 0
 Apart = (k : ℕ) → pos 388000 ≤ℤ cross (directionOf k) (directionOf (suc k))
 

@@ -1,4 +1,4 @@
--- Clause 2.8: so far along a direction, in whole decimetres. Assumes nothing.
+-- Clause 2.8: m along D(k), rounded to whole decimetres. Assumes nothing.
 use Prim.Native.Nat.{ℕ}
 use lib.IntN.{pos, _*ℤ_}
 use Rattle.integers.specs.Round.{nearestOf}

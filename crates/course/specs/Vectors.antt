@@ -1,4 +1,4 @@
--- Clause 2.5: level vectors. Assumes nothing.
+-- Clause 2.5: the cross product and the squared length of level vectors. Assumes nothing.
 use Prim.Native.Nat.{ℕ}
 use lib.IntN.{ℤ, pos, _+ℤ_, _-ℤ_, _*ℤ_}
 use Rattle.integers.specs.Bounds.{Within}

@@ -1,5 +1,5 @@
--- Clauses 17.8, 17.13, 17.14: the desk's calls for C: what each answers, and what the caller's memory holds afterwards. A note is a copy of its
--- bytes and their number; a check is the refusal of a load and its place; a count is the number of notes. Assumes nothing.
+-- Clauses 17.5, 17.8, 17.13, 17.14: the desk's calls for C: what each answers, and what the caller's memory holds afterwards. A note is a copy
+-- of its bytes and their number; a check is the refusal of a load and its place; a count is the number of notes. Assumes nothing.
 use mathlib.Core.Bool.{Bool}
 use mathlib.Core.List.{List, [], _∷_}
 use Prim.Native.Nat.{ℕ}

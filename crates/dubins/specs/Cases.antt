@@ -1,5 +1,5 @@
--- Clauses 12.1 to 12.6, 12.8, 12.12: one case of a leg, in the rules' order and symbols. R is the radius, χs and χe are the courses to leave and
--- to arrive on, v runs between the centres, s is the straight part and θ its course. Assumes nothing.
+-- Clauses 12.1 to 12.6, 12.8, 12.9, 12.12: one case of a leg, in the rules' order and symbols. R is the radius, χs and χe are the courses to
+-- leave and to arrive on, v runs between the centres, s is the straight part and θ its course. Assumes nothing.
 use mathlib.Core.Bool.{Bool, not}
 use Prim.Native.Nat.{ℕ, _+_, _-_, _*_, _%_}
 use lib.Dec.{eqb, leb, ltb}
@@ -39,7 +39,7 @@ circlesOf ends case =
     let end = centreOf (ends .end) (ends .radius) (ends .arrive) (endsRight case) in
     record { start = start; end = end; v = minus end start }
 
--- 12.3: v is not zero, which is v·v > 0; 12.4: the circles are two radii apart. Existence of Choice says so of each case.
+-- 12.3: v is not zero, which is v·v > 0; 12.4: the centres are at least two radii apart. The record `Existence` in Choice says this of each case.
 unfoldable pub tangentExists : ℕ → ℕ → Vector → Bool
 tangentExists case R v = choose (sameSide case) (ltb 0 (squareOf v)) (leb (4 * R * R) (squareOf v))
 

@@ -1,4 +1,4 @@
--- Clauses 7.12, 7.17, 12.2, 12.7, 12.12: the shortest of a leg's cases, and the tests of refusals 12 and 17. Assumes nothing.
+-- Clauses 7.12, 7.17, 12.2 to 12.4, 12.7: the shortest of a leg's cases, and the tests of refusals 12 and 17. Assumes nothing.
 use mathlib.Core.Path.{_≡_}
 use mathlib.Core.Logic.{_↔_}
 use mathlib.Core.Bool.{Bool, true, false, _||_}

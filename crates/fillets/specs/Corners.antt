@@ -1,4 +1,4 @@
--- Clauses 11.2, 11.4 to 11.6: the turn at a corner, its tangent length, and its arc. Assumes nothing.
+-- Clauses 7.11, 11.2, 11.4 to 11.6, 12.12: the turn at a corner, its tangent length, and its arc. Assumes nothing.
 use mathlib.Core.Path.{_≡_}
 use mathlib.Core.Bool.{Bool, false}
 use Prim.Native.Nat.{ℕ, _+_, _-_, _*_, _/_, _≤_}
@@ -59,7 +59,7 @@ cornerOf before point after R =
     roundedOf (levelOf point) (bearingOf (levelLegOf before point)) (bearingOf (levelLegOf point after))
     (rightOf (levelLegOf before point) (levelLegOf point after)) R (tangentOf R (cornerTurn before point after))
 
--- for proofs alone, worked out by hand: the steepest turn of the widest radius, and at (1000,0), from north to west, a corner of tangent length 100 and R 200
+-- for proofs alone, worked out by hand: the sharpest turn of the widest radius, and at (1000,0), from north to west, a corner of tangent length 100 and R 200
 pub record HandCorners : Type 0 where
   pub steepest : tangentOf 10000 1792 ≡ 50280
   pub corner :

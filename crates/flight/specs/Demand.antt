@@ -64,7 +64,7 @@ pub record Demand : Type 0 where
   pub cut : (f : List ℕ) → IsLater f → ((s : State) × Loads 3 f s) ↔ ((s : State) × Loads 3 (cutOut f) s)
   -- 15.13: to equal states
   pub same : (f : List ℕ) → IsLater f → (s t : State) → Loads 3 f s → Loads 3 (cutOut f) t → s ≡ t
-  -- A loaded plan flies: of any file that any reader loads, the state is one that 14 does not refuse, and in every list each fix that names its
+  -- 15.16: a loaded plan flies: of any file that any reader loads, the state is one that 14 does not refuse, and in every list each fix that names its
   -- serial at a position in range is answered with a line or a circle.
   pub valid : (r : ℕ) (f : List ℕ) (s : State) → Loads r f s → validOf s ≡ true
   pub flies : (r : ℕ) (f : List ℕ) (s : State) → Loads r f s → (fixes : List Named) → Answered (serialOf f) fixes (run s fixes)

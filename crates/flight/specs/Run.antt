@@ -1,4 +1,4 @@
--- Clauses 15.7, 15.10, 15.11, 15.15, 15.16: a run over a list of fixes, each from the state before it. Assumes nothing.
+-- Clauses 15.7, 15.10, 15.11, 15.14 to 15.16: a run over a list of fixes, each from the state before it. Assumes nothing.
 use mathlib.Core.Path.{_≡_}
 use mathlib.Core.List.{List, [], _∷_}
 use Prim.Native.Nat.{ℕ}

@@ -24,7 +24,7 @@ module _ (f serials : List ℕ) (fixes : List Float) (answers : List ℕ) (comma
   commandsWith r = commandsAfter (loadOf r f) serials fixes answers commands
 
   pub record TwoFlights (r : ℕ) : Type 0 where
-    -- it refuses the file as too new exactly when it holds a radius or course which that version lacks
+    -- 15.8: refused 7 where, and only where, the file has a radius or a course that its version lacks
     pub refuses : (flownWith r .refusal ≡ 7) ↔ (holdsNewer r (recordsOf f) ≡ true)
     -- otherwise both answer alike, word for word and bit for bit, at every fix, and end in the same state
     pub flown : holdsNewer r (recordsOf f) ≡ false → flownWith r ≡ flownWith 3

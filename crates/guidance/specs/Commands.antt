@@ -1,4 +1,4 @@
--- Clauses 9.4, 9.5, 10.1, 11.5, 11.6, 15.14, 18.5: a line or a circle to follow, in f32 metres. Assumes nothing.
+-- Clauses 9.4, 9.5, 10.1, 11.5, 11.6, 12.9, 15.14, 18.5: a line or a circle to follow, in f32 metres. Assumes nothing.
 use mathlib.Core.Bool.{Bool, true, false}
 use Prim.Native.Nat.{ℕ}
 use lib.IntN.{ℤ, pos, negsuc}

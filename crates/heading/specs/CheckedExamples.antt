@@ -1,5 +1,5 @@
--- Holds clauses 14.1, 14.2: headings worked out by hand, those of 19.2 among them. They hold the definitions to the rules, whatever the code
--- does. Assumes nothing.
+-- Holds clauses 14.1, 14.2: headings worked out by hand, those of section 19 among them. They hold the definitions to the rules, whatever the
+-- code does. Assumes nothing.
 use mathlib.Core.Path.{_≡_}
 use mathlib.Core.Bool.{true, false}
 use lib.IntN.{pos, negsuc}

@@ -3,8 +3,8 @@ use Prim.Native.Nat.{ℕ, zero, suc, _+_, _*_, _/_, _≤_, _<_}
 use lib.Dec.{leb}
 use Rattle.conditions.specs.Choose.{choose}
 
--- 1.8: r² ≤ n < (r + 1)². What a reader has to believe, and what `root` promises of its answer. Nothing else than rootOf n is
--- it: the law root-only of proofs/RootLaws, by which the code's answer is known.
+-- 1.8: r² ≤ n < (r + 1)². What a reader has to believe, and what `root` promises of its answer. rootOf n is the only such r: the law root-only of
+-- proofs/RootLaws, by which the code's answer is known.
 pub record IsRoot (n r : ℕ) : Type 0 where
   pub low : r * r ≤ n
   pub high : n < (r + 1) * (r + 1)

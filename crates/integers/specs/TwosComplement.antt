@@ -4,7 +4,7 @@ use lib.IntN.{ℤ}
 use mir.Syntax.{w32}
 use mir.Val.{toZ, ofZ}
 
--- the number that bits are
+-- the signed number that 32 bits stand for
 abbrev pub signedOf : ℕ → ℤ
 signedOf u = toZ w32 u
 

@@ -1,5 +1,5 @@
--- Clause 15.16: a state that 14 does not refuse flies: it answers every fix in range that names its serial, and so does the state after it.
--- Assumes nothing.
+-- Clauses 15.14, 15.16: a state that 14 does not refuse flies: it answers every fix in range that names its serial, and so does the state after
+-- it. Assumes nothing.
 use mathlib.Core.Path.{_≡_}
 use mathlib.Core.Bool.{true}
 use Prim.Native.Nat.{ℕ}

@@ -1,6 +1,6 @@
--- Holds clauses 13.1 to 13.6: the last leg on a plan of each mode, worked out by hand: what a fix answers, and where the flight then is. The
--- points are (0, 0, 0), (1000, 0, 0) and (1000, 1000, 500), so that the last leg sinks. The examples hold the definitions to the rules, whatever
--- the code does. Assumes nothing.
+-- Holds clauses 13.1 to 13.6, 15.16: the last leg on a plan of each mode, worked out by hand: what a fix answers, and where the flight then is.
+-- The points are (0, 0, 0), (1000, 0, 0) and (1000, 1000, 500), so that the last leg sinks. The examples hold the definitions to the rules,
+-- whatever the code does. Assumes nothing.
 use mathlib.Core.Path.{_≡_}
 use mathlib.Core.Bool.{Bool, true, false}
 use mathlib.Core.List.{List, [], _∷_}

@@ -37,7 +37,7 @@ unfoldable pub pathGuide : Ends → ℕ → Point → Found → Guidance
 pathGuide ends phase p (Shortest path) = dubinsGuide ends path phase p
 pathGuide ends phase p Missing = record { command = Nothing; heading = 0; passed = false }
 
--- 9.2: what each mode does at index i, with the points i−1, i and i+1. 13.2: the last leg has no point behind it; lines and fillets have a rule
+-- 9.2: what each mode does at index i, with the points i−1, i and i+1. 13.2: the last leg has no point after it; lines and fillets have a rule
 -- of their own there, fillets in north and east.
 unfoldable pub guideOf : Mode → Plan → ℕ → ℕ → Point → Guidance
 guideOf Lines plan i phase p =

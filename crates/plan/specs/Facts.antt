@@ -1,4 +1,4 @@
--- Holds clauses 1.3 to 1.5, 4.10, 6.2, 7.8 to 7.12, 7.14, 7.17: what the limits and rules of a plan come to, in numbers: laws, and one list of
+-- Holds clauses 1.2 to 1.5, 4.10, 6.2, 7.8 to 7.12, 7.14, 7.17: what the limits and rules of a plan come to, in numbers: laws, and one list of
 -- examples that the prover computes. A definition that is changed together with the code that it describes is refused here. Assumes nothing.
 use mathlib.Core.Path.{_≡_}
 use mathlib.Core.Bool.{Bool, true, false}

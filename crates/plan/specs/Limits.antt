@@ -1,4 +1,4 @@
--- Clauses 1.2 to 1.5, 7.11: the limits of a plan's numbers. Assumes nothing.
+-- Clauses 1.2 to 1.5, 7.11, 7.14: the limits of a plan's numbers. Assumes nothing.
 use mathlib.Core.Bool.{Bool}
 use Prim.Native.Nat.{ℕ}
 use lib.Dec.{leb, eqb}
@@ -28,7 +28,7 @@ leastRadius = 50
 abbrev pub mostRadius : ℕ
 mostRadius = 10000
 
--- in units of a course, each of which is below it
+-- the units of a full circle; every course is below it
 abbrev pub fullCircle : ℕ
 fullCircle = 4096
 

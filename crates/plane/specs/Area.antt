@@ -1,4 +1,4 @@
--- Clause 1.1: points, and what lies between two of them. Assumes nothing.
+-- Clauses 1.1, 1.3: points, and what lies between two of them. Assumes nothing.
 use lib.IntN.{_-ℤ_}
 use Rattle.integers.specs.Bounds.{Within}
 use Rattle.course.specs.declared.Vector.{Vector}

@@ -34,7 +34,7 @@ pub record HandHalves : Type 0 where
   pub beside : halfPlane (pos 1000) (negsuc 1999) 1000000 4000000 ≡ true
   pub short : halfPlane (pos 1000) (negsuc 2000) 1000000 4000000 ≡ false
 
--- 10.2: of d, the position less the point, and of the legs before and behind it
+-- 10.2: of d, the position less the point, and of the legs before and after it
 unfoldable pub metOf : Leg → Leg → Leg → Bool
 metOf d a b = halfPlane (dot3Of d a) (dot3Of d b) (square3Of a) (square3Of b)
 

@@ -1,4 +1,4 @@
--- Clauses 7.13, 9.1, 18.7: a float in metres as decimetres, and whether it is in range. Assumes nothing.
+-- Clauses 1.7, 7.13, 9.1, 18.7: a float in metres as decimetres, and whether it is in range. Assumes nothing.
 use Prim.Native.Nat.{ℕ, _+_, _*_, _/_}
 use mathlib.Core.Bool.{Bool, true, false}
 use lib.IntN.{ℤ, pos, negℤ}

@@ -1,5 +1,4 @@
--- No clause: 9.1 by the float's bits (18.7): the fields of an f32's pattern, and the size that they stand for. For proofs alone. Assumes
--- nothing.
+-- Clause 18.7: 9.1 by the float's bits: the fields of an f32's pattern, and the size that they stand for. For proofs alone. Assumes nothing.
 use Prim.Native.Nat.{ℕ, zero, suc, _+_, _*_, _/_, _%_, _^_}
 use Rattle.units.specs.Decimetres.{nearestQuotient}
 

@@ -14,7 +14,7 @@ use Rattle.wpl.specs.declared.Span.{Span}
 use Rattle.wpl.specs.declared.Span.the-variants.{At, Nothing}
 use Rattle.wpl.specs.Load.{recordsOf, loadOf}
 
--- whether a record of kind k is the note that is looked for, n notes on, and how many notes on it is after one that is not
+-- n = 1 stands for the next note. Whether a record of kind k is the note that is sought; and what n is after a record that is not.
 unfoldable pub wantedOf : ℕ → ℕ → Bool
 wantedOf k n = both (eqb k (noteRow .kind)) (eqb n 1)
 

@@ -1,5 +1,5 @@
--- Holds clauses 6.1, 6.2, 6.4, 7.1 to 7.17: files and writes with more than one fault, worked out by hand: the order of the checks, and each
--- number and place. Assumes nothing.
+-- Holds clauses 6.1, 6.2, 6.4, 7.1 to 7.12, 7.14, 7.16: files and writes with more than one fault, worked out by hand: the order of the checks,
+-- and each number and place. Assumes nothing.
 use mathlib.Core.Path.{_≡_}
 use mathlib.Core.List.{List, [], _∷_, _++_}
 use Prim.Native.Nat.{ℕ}
@@ -41,7 +41,7 @@ abbrev pub Refused : Fault → Type 0
 Refused (loadFault reader bytes number place) = loadOf reader bytes ≡ refused number place
 Refused (writeFault s version room number) = writeOf s version room ≡ refused number 0
 
--- 6.1 and 6.2. Each file has the fault of its number, and of numbers after it.
+-- 6.1 and 6.2. Each file has the fault of its number, and all but the last have later ones too.
 abbrev pub loadOrder : List Fault
 loadOrder =
     loadFault 0 [] 3 0

@@ -1,5 +1,4 @@
--- Clauses 5.1, 5.2, 6.4, 6.5, 7.3, 7.7, 7.16, 8.3, 15.1, 15.4: a write: its checks in order, its answer, and the buffer afterwards. Assumes
--- nothing.
+-- Clauses 5.2, 6.4, 6.5, 7.3, 7.7, 7.16, 8.3, 15.1, 15.4: a write: its checks in order, its answer, and the buffer afterwards. Assumes nothing.
 use mathlib.Core.List.{List}
 use Prim.Native.Nat.{ℕ}
 use lib.Dec.{leb}

@@ -1,4 +1,4 @@
--- Holds clauses 3.2, 5.1: a file of three points byte for byte, and one with a radius and a course. A definition that is changed together with
+-- Holds clauses 3.2, 5.1: a file of three points byte for byte, and one with a radius and courses. A definition that is changed together with
 -- the code that it describes is refused here. Assumes nothing.
 use mathlib.Core.Path.{_≡_}
 use mathlib.Core.List.{List, [], _∷_, _++_}

@@ -1,4 +1,4 @@
--- Clauses 3.2, 5.1, 18.6: the file of a plan. Assumes nothing.
+-- Clauses 3.2, 5.1, 15.12, 18.6: the file of a plan. Assumes nothing.
 use mathlib.Core.List.{List, [], _∷_, _++_}
 use Prim.Native.Nat.{ℕ, zero, suc, _+_, _≤_}
 use lib.Dec.{eqb}
