@@ -1,7 +1,7 @@
 #!/usr/bin/env python3
 """Compares the autopilot's C interface with a folder of states and expected answers.
 
-usage: states.py CORPUS ARCHIVE    (ARCHIVE: target/staticlib/libautopilot.a, from `rt staticlib autopilot`)
+usage: states.py CORPUS ARCHIVE    (ARCHIVE: target/staticlib/libautopilot.a, from tools/archives)
 
 CORPUS holds states.tsv, most of them broken, each with a fix and a write, and the states of request 4 (tables.py). Leaves with 1 where an answer
 differs, or where none was compared.
