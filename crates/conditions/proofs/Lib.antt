@@ -1,3 +1,4 @@
 pub mod ChooseLaws
 pub mod Bools
 pub mod BetweenLaws
+pub mod AllLaws
