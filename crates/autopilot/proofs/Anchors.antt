@@ -44,11 +44,11 @@ use Rattle.records.specs.Kinds.{table, rowIn, rowOf, optional, knows, pointIn, 
 use Rattle.records.specs.Gather.{after, gather}
 use Rattle.writer.specs.File.{withHeader, pointRecords, radiusRecord, listed, planRecords, fileOf}
 use Rattle.c_answer.specs.Words.{wordOf, flagOf, kindOf, commandSense, answerWords, commandNumbers}
-use Rattle.c_state.specs.Stored.{modeWord, modeAt, stateWords, wordAt, holdsState, takenOf}
+use Rattle.c_state.specs.Stored.{modeWord, modeAt, stateWords, wordAt, holdsState, takenOf, pairFits}
 use Rattle.wpl.specs.Header.{markedOf, versionOf, serialOf, areaOf, areaFits, headerOf}
 use Rattle.wpl.specs.Load.{recordsOf, partsOf, settleOf, rulesIn, finishOf, bodyOf, loadOf, loadedOf}
 use Rattle.wpl.specs.Write.{carriedSince, writeOf, writtenOf, bufferOf}
-use Rattle.autopilot.specs.Calls.{pairFits, fixFits, loadResult, loadState, loadAnswer, writeFile, writeAnswer, fixWords, fixNumbers, fixNumber, fixNext, writeFrom}
+use Rattle.autopilot.specs.Calls.{fixFits, loadResult, loadState, loadAnswer, writeFile, writeAnswer, fixWords, fixNumbers, fixNumber, fixNext, writeFrom}
 use Rattle.autopilot.specs.CallList.{replyTo, wordsAfter, replies, wordsInTheEnd}
 use Rattle.autopilot.specs.TwoBuffers.{AreBytes}
 use Rattle.autopilot.specs.Example.{example, ones, CallExample, Separates, Lengths}

@@ -7,42 +7,28 @@ use lib.IntN.{ℤ}
 use lib.ListN.{length, take, drop, length-drop}
 use lib.Seq.{length-take-le}
 use native.Mathlib.Omega.{arith}
-use borrow.Author.Tests.{leb-true}
 use Rattle.conditions.proofs.ChooseLaws.{choose-true, choose-false}
-use Rattle.conditions.proofs.Bools.{both-first, both-second}
 use Rattle.refusals.specs.Numbers.{misfit, noState}
 use Rattle.refusals.specs.Outcome.{Outcome, good, refused}
 use Rattle.refusals.proofs.OutcomeLaws.{then-good, then-stops}
 use Rattle.buffers.specs.Splice.{over}
-use Rattle.plan.specs.declared.Head.{Head}
 use Rattle.plan.specs.Places.{planNumbers, numbersOf, Filled}
-use Rattle.manager.specs.declared.Progress.{Progress}
 use Rattle.manager.specs.declared.State.{State}
-use Rattle.manager.specs.State.{viewed}
 use Rattle.c_answer.specs.Words.{wordOf}
-use Rattle.c_state.specs.Stored.{northsPlace, eastsPlace, downsPlace, coursesPlace, stateLength, headWords, progressWords, headAt, progressAt, part, stateAt, takenOf}
+use Rattle.c_state.specs.Stored.{northsPlace, stateLength, headWords, progressWords, takenOf}
 use Rattle.c_state.proofs.StoredLaws.{whole-put}
 use Rattle.wpl.specs.declared.Loaded.{Loaded}
 use Rattle.wpl.specs.declared.Entered.{Entered}
 use Rattle.wpl.specs.declared.Written.{Written}
 use Rattle.wpl.specs.Load.{enteredOf}
 use Rattle.wpl.specs.Write.{writeOf, writtenOf, bufferOf}
-use Rattle.autopilot.specs.Calls.{pairFits, loadWords, loadResult, loadState, loadAnswer, writeFrom, writeWords, writeResult, writeFile, writeAnswer}
+use Rattle.autopilot.specs.Calls.{loadResult, loadState, loadAnswer, writeFrom, writeWords, writeResult, writeFile, writeAnswer}
 use Rattle.autopilot.specs.Held.{Untouched}
-
--- ---- lengths
-pub pair-means : (s a least : ℕ) → pairFits s a least ≡ true → (stateLength ≤ s) × (least ≤ a)
-unfolding pairFits
-pair-means s a least h = (leb-true stateLength s (both-first _ _ h), leb-true least a (both-second _ _ h))
 
 -- ---- parts of the words: all numbers, and the state of all kinds of them
 module _ (ws : List ℤ) (long : stateLength ≤ length ws) where
   pub all-lent : length (take (stateLength - northsPlace) (drop northsPlace ws)) ≡ planNumbers
   all-lent = length-take-le (stateLength - northsPlace) (drop northsPlace ws) (simp length-drop (omega arith))
-
-pub state-there : (ws : List ℤ) {h : Head} {p : Progress} → h ≡ headAt ws → p ≡ progressAt ws
-    → viewed h p (part northsPlace ws) (part eastsPlace ws) (part downsPlace ws) (part coursesPlace ws) ≡ stateAt ws
-state-there ws e f = λ t. viewed (e t) (f t) (part northsPlace ws) (part eastsPlace ws) (part downsPlace ws) (part coursesPlace ws)
 
 -- ---- load
 module _ (b : Bool) (x : Loaded) (state : List ℤ) (answer : List ℕ) where

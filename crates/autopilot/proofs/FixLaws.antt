@@ -12,8 +12,8 @@ use borrow.Author.Tests.{le-leb, lt-leb}
 use Rattle.conditions.proofs.ChooseLaws.{choose-true, choose-false}
 use Rattle.conditions.proofs.Bools.{clash, both-true, both-off-second, both-off}
 use Rattle.refusals.specs.Numbers.{misfit, noState}
-use Rattle.refusals.specs.Outcome.{good, refused}
-use Rattle.refusals.proofs.OutcomeLaws.{check-true, check-false, never-good}
+use Rattle.refusals.specs.Outcome.{good}
+use Rattle.refusals.proofs.OutcomeLaws.{never-good}
 use Rattle.buffers.specs.Splice.{over, splice}
 use Rattle.units.specs.declared.Fix.{Fix}
 use Rattle.guidance.specs.declared.Command.the-variants.{Nothing}
@@ -27,9 +27,10 @@ use Rattle.manager.specs.State.{viewed}
 use Rattle.manager.specs.Step.{steppedBy, stepOf}
 use Rattle.manager.proofs.StepLaws.{step-refused}
 use Rattle.c_answer.specs.Words.{answerWords, commandNumbers}
-use Rattle.c_state.specs.Stored.{serialPlace, indexPlace, northsPlace, eastsPlace, downsPlace, coursesPlace, stateLength, progressWords, stateWords, headAt, progressAt, part, planAt, stateAt, holdsState, takenOf, AreWords, Storable}
+use Rattle.c_state.specs.Stored.{serialPlace, indexPlace, northsPlace, eastsPlace, downsPlace, coursesPlace, stateLength, progressWords, stateWords, headAt, progressAt, part, planAt, stateAt, holdsState, takenOf, pairFits, AreWords, Storable}
+use Rattle.c_state.proofs.TakenLaws.{held, not-held}
 use Rattle.c_state.proofs.StoredLaws.{put-back, progress-is, held-storable}
-use Rattle.autopilot.specs.Calls.{pairFits, fixFits, refusedWords, fixWords, fixNumbers, fixNumber, fixNext, fixResult, fixState, fixAnswer, fixCommand}
+use Rattle.autopilot.specs.Calls.{fixFits, refusedWords, fixWords, fixNumbers, fixNumber, fixNext, fixResult, fixState, fixAnswer, fixCommand}
 use Rattle.autopilot.specs.Held.{Hold, FixHolds}
 use Rattle.autopilot.proofs.HeldLaws.{hold-over, step-storable}
 
@@ -49,14 +50,6 @@ module _ (state : List ℤ) (answer : List ℕ) (command : List Float) where
 
 -- ---- what words hold
 module _ (ws : List ℤ) where
-  pub held : holdsState ws ≡ true → takenOf ws ≡ good (stateAt ws)
-  unfolding takenOf
-  held h = check-true _ noState _ h
-
-  pub not-held : holdsState ws ≡ false → takenOf ws ≡ refused noState 0
-  unfolding takenOf
-  not-held h = check-false _ noState _ h
-
   -- what is decided of the parts that are lent
   pub decided-there : (serial : ℕ) (fix : Fix) {h : Head} {p : Progress} {d : Decided} → h ≡ headAt ws → p ≡ progressAt ws
       → steppedBy (seen h (part northsPlace ws) (part eastsPlace ws) (part downsPlace ws) (part coursesPlace ws)) d

@@ -17,15 +17,12 @@ use Rattle.manager.specs.declared.State.{State}
 use Rattle.manager.specs.Step.{stepOf}
 use Rattle.refusals.specs.Numbers.{misfit}
 use Rattle.c_answer.specs.Words.{wordOf, answerWords, commandNumbers}
-use Rattle.c_state.specs.Stored.{indexPlace, phasePlace, finishedPlace, stateLength, stateWords, wordAt, takenOf}
+use Rattle.c_state.specs.Stored.{indexPlace, phasePlace, finishedPlace, stateWords, wordAt, takenOf, pairFits}
 use Rattle.wpl.specs.declared.Loaded.{Loaded}
 use Rattle.wpl.specs.declared.Written.{Written}
 use Rattle.wpl.specs.Write.{writeOf, writtenOf, bufferOf}
 
 -- ---- 17.5: which lengths are enough. Where one is not, the call answers 100 and leaves everything as it was.
-unfoldable pub pairFits : ℕ → ℕ → ℕ → Bool
-pairFits state answer least = both (leb stateLength state) (leb least answer)
-
 abbrev pub loadFits : List ℤ → List ℕ → Bool
 loadFits state answer = pairFits (length state) (length answer) 2
 

@@ -19,7 +19,7 @@ ghost use Rattle.autopilot.specs.Held.{Untouched, LoadHolds, FixHolds};
 ghost use Rattle.autopilot.specs.CallList.{CallsRun};
 ghost use Rattle.autopilot.specs.TwoBuffers.{AlikeBuffers, BuffersFly};
 ghost use Rattle.autopilot.specs.Example.{CallExample, Separates, Lengths};
-ghost use Rattle.autopilot.specs.Calls.{pairFits, loadFits, loadResult, loadState, loadAnswer, fixFits, refusedWords, fixResult, fixState, fixAnswer, fixCommand, writeFits, writeFrom, writeResult, writeFile, writeAnswer};
+ghost use Rattle.autopilot.specs.Calls.{loadFits, loadResult, loadState, loadAnswer, fixFits, refusedWords, fixResult, fixState, fixAnswer, fixCommand, writeFits, writeFrom, writeResult, writeFile, writeAnswer};
 
 // The words of the answers to a load and to a write.
 pub const LOAD_ANSWER: usize = 2;
@@ -32,16 +32,6 @@ pub extern "C" fn farnkuppel_interface() -> u32
     ensures { λ r. ⌜ r ≡ interface ⌝ }
 {
     c_answer::INTERFACE
-}
-
-// Whether a state's words and an answer have their lengths.
-fn fits(state: usize, answer: usize, least: usize) -> bool
-    ensures { λ r. ⌜ r ≡ pairFits state answer least ⌝ }
-{
-    if c_state::STATE_LENGTH <= state {
-        return least <= answer;
-    }
-    false
 }
 
 // Loads a plan file by a reader of a version, into the state's words as they lie. Refused, they are those of the empty state.
@@ -58,7 +48,7 @@ pub extern "C" fn farnkuppel_load(
     ensures { λ _. ⌜ LoadHolds (loadFits (now (state .entry)) (now (answer .entry))) reader (now (file .entry)) (now (state .entry)) (now (state .exit)) ⌝ }
     ensures { λ _. ⌜ AlikeBuffers × BuffersFly ⌝ }
 {
-    if !fits(state.len(), answer.len(), LOAD_ANSWER) {
+    if !c_state::fits(state.len(), answer.len(), LOAD_ANSWER) {
         return refusals::MISFIT as u32;
     }
     let entered = wpl::load_into(
@@ -130,7 +120,7 @@ pub extern "C" fn farnkuppel_fix(
     ensures { λ r. ⌜ FixHolds (fixFits (now (state .entry)) (now (answer .entry)) (now (command .entry))) serial (record { north = north; east = east; down = down }) (now (state .entry)) (now (state .exit)) r ⌝ }
     ensures { λ _. ⌜ CallsRun × ((CallExample × Separates) × Lengths) ⌝ }
 {
-    if !fits(state.len(), answer.len(), c_answer::ANSWER) {
+    if !c_state::fits(state.len(), answer.len(), c_answer::ANSWER) {
         return refusals::MISFIT as u32;
     }
     if command.len() < c_answer::COMMAND {
@@ -181,7 +171,7 @@ pub extern "C" fn farnkuppel_write(
     ensures { λ _. ⌜ now (answer .exit) ≡ writeAnswer (writeFits (now (state .entry)) (now (answer .entry))) (writeFrom (now (state .entry)) version (length (now (file .entry)))) (now (answer .entry)) ⌝ }
     ensures { λ r. ⌜ Untouched r (now (file .entry)) (now (file .exit)) ⌝ }
 {
-    if !fits(state.len(), answer.len(), WRITE_ANSWER) {
+    if !c_state::fits(state.len(), answer.len(), WRITE_ANSWER) {
         return refusals::MISFIT as u32;
     }
     if !c_state::holds_state(state) {

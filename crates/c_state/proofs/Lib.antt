@@ -1,3 +1,4 @@
 pub mod HoldsLaws
+pub mod TakenLaws
 pub mod StoredLaws
 pub mod Anchors

@@ -1,4 +1,4 @@
--- Clauses 17.4, 17.6, 18.10: a state as C sees it: signed words of 32 bits at fixed places, seven that hold numbers with no sign by their bits,
+-- Clauses 17.4 to 17.6, 18.10: a state as C sees it: signed words of 32 bits at fixed places, seven that hold numbers with no sign by their bits,
 -- then a block for each kind of number of the plan. Assumes nothing.
 use mathlib.Core.Bool.{Bool}
 use mathlib.Core.List.{List, [], _∷_, _++_, map}
@@ -119,6 +119,10 @@ holdsState ws =
 -- the state that the words hold, or 14
 unfoldable pub takenOf : List ℤ → Outcome State
 takenOf ws = check (holdsState ws) noState (good (stateAt ws))
+
+-- 17.5: the lengths of a state's words and of an answer, where that has to have so many words at least
+unfoldable pub pairFits : ℕ → ℕ → ℕ → Bool
+pairFits state answer least = both (leb stateLength state) (leb least answer)
 
 -- ---- what the laws are about: numbers of a slice of i32, from a place up to another
 abbrev pub AreWords : ℕ → ℕ → List ℤ → Type 0

@@ -12,7 +12,7 @@ ghost use mir.Val.{SFits};
 ghost use Rattle.buffers.specs.Splice.{over, splice};
 ghost use Rattle.plan.specs.Places.{numberAt};
 ghost use Rattle.c_state.specs.Layout.{Layout, Edges};
-ghost use Rattle.c_state.specs.Stored.{serialPlace, indexPlace, northsPlace, stateLength, modeWord, modeAt, inWords, headWords, progressWords, wordAt, headAt, progressAt, holdsState, AreWords};
+ghost use Rattle.c_state.specs.Stored.{serialPlace, indexPlace, northsPlace, stateLength, modeWord, modeAt, inWords, headWords, progressWords, wordAt, headAt, progressAt, holdsState, pairFits, AreWords};
 
 // Where a state's words stand: these seven, then as many norths, easts, downs and courses as a plan has places.
 pub const SERIAL_PLACE: usize = 0;
@@ -85,6 +85,16 @@ pub fn word_at(words: &[i32], i: usize) -> u32
     ensures { λ r. ⌜ (r ≡ wordAt (now (words .entry)) i) × SFits w32 (numberAt (now (words .entry)) i) ⌝ }
 {
     integers::unsigned(words[i])
+}
+
+// Whether a state's words and an answer have their lengths.
+pub fn fits(state: usize, answer: usize, least: usize) -> bool
+    ensures { λ r. ⌜ r ≡ pairFits state answer least ⌝ }
+{
+    if STATE_LENGTH <= state {
+        return least <= answer;
+    }
+    false
 }
 
 // Whether words hold a state: a mode that exists, and each small number in its type. What is wrong with the plan, the manager refuses.

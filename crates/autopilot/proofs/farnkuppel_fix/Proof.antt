@@ -5,9 +5,8 @@ use Prim.Native.Nat.{_≤_}
 use lib.ListN.{length}
 use borrow.Author.Tests.{not-true, not-false}
 use borrow.Author.Needs.{needs}
-use Rattle.c_state.specs.Stored.{stateLength}
-use Rattle.autopilot.specs.Calls.{pairFits}
-use Rattle.autopilot.proofs.CallLaws.{pair-means}
+use Rattle.c_state.specs.Stored.{stateLength, pairFits}
+use Rattle.c_state.proofs.TakenLaws.{pair-means}
 use Rattle.autopilot.proofs.HeldLaws.{calls-run}
 use Rattle.autopilot.proofs.Anchors.{in-numbers, lengths}
 use Rattle.autopilot.proofs.FixLaws.{pair-short, command-short, fix-fits, fix-unfit, fix-refused, fix-taken}

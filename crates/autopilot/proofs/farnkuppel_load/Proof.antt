@@ -7,9 +7,10 @@ use lib.ListN.{length}
 use borrow.Author.Tests.{not-true, not-false}
 use Rattle.buffers.specs.Splice.{over}
 use Rattle.c_state.specs.Stored.{stateLength}
+use Rattle.c_state.proofs.TakenLaws.{pair-means}
 use Rattle.wpl.specs.declared.Entered.{Entered}
 use Rattle.wpl.proofs.LoadLaws.{loaded-filled}
-use Rattle.autopilot.proofs.CallLaws.{pair-means, all-lent, load-unfit, load-fit}
+use Rattle.autopilot.proofs.CallLaws.{all-lent, load-unfit, load-fit}
 use Rattle.autopilot.proofs.HeldLaws.{load-holds-none, load-holds}
 use Rattle.autopilot.proofs.TwoBuffersLaws.{alike-buffers, buffers-fly}
 use borrow.Author.Needs.{needs}

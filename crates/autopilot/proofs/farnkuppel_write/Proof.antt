@@ -8,9 +8,9 @@ use Rattle.refusals.specs.Outcome.{Outcome}
 use Rattle.buffers.specs.Splice.{over}
 use Rattle.c_answer.specs.Words.{wordOf}
 use Rattle.c_state.specs.Stored.{stateLength}
+use Rattle.c_state.proofs.TakenLaws.{pair-means, held, not-held}
 use Rattle.wpl.specs.Write.{writtenOf, bufferOf}
-use Rattle.autopilot.proofs.FixLaws.{held, not-held}
-use Rattle.autopilot.proofs.CallLaws.{pair-means, write-unfit, write-fit, write-none, from-none, from-state}
+use Rattle.autopilot.proofs.CallLaws.{write-unfit, write-fit, write-none, from-none, from-state}
 use borrow.Author.Needs.{needs}
 use Rattle.autopilot.proofs.farnkuppel_write.Statement.{statement}
 use Rattle.autopilot.proofs.farnkuppel_write.Tie as tie

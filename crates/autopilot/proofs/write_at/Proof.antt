@@ -4,7 +4,7 @@ use lib.ListN.{length}
 use Rattle.manager.specs.declared.State.{State}
 use Rattle.wpl.specs.Write.{writeOf, writtenOf, bufferOf}
 use Rattle.c_state.proofs.StoredLaws.{blocks-lent}
-use Rattle.autopilot.proofs.CallLaws.{state-there}
+use Rattle.c_state.proofs.TakenLaws.{state-there}
 use borrow.Author.Needs.{needs}
 use Rattle.autopilot.proofs.write_at.Statement.{statement}
 use Rattle.autopilot.proofs.write_at.Tie as tie

@@ -2,9 +2,9 @@
 use mathlib.Core.Path.{sym}
 use borrow.Author.Tests.{le-leb, lt-leb}
 use Rattle.conditions.proofs.Bools.{both-on, both-off}
-use Rattle.autopilot.specs.Calls.{pairFits}
-use Rattle.autopilot.proofs.fits.Statement.{statement}
-use Rattle.autopilot.proofs.fits.Tie as tie
+use Rattle.c_state.specs.Stored.{pairFits}
+use Rattle.c_state.proofs.fits.Statement.{statement}
+use Rattle.c_state.proofs.fits.Tie as tie
 
 returns : tie.Need-returns
 unfolding pairFits
