@@ -87,7 +87,7 @@ pub record There (norths easts downs : List ℤ) (i : ℕ) : Type 0 where
   pub east : i < length easts
   pub down : i < length downs
 
--- and its point lies in the area; for proofs alone
+-- and its point lies in the area
 pub record Placed (norths easts downs : List ℤ) (i : ℕ) : Type 0 where
   pub there : There norths easts downs i
   pub area : InArea (placeAt norths easts downs i)

@@ -1,4 +1,4 @@
--- Clauses 7.1 to 7.17, 17.5: each refusal's number by a name, which the code has in capitals. Assumes nothing.
+-- Clauses 7.1 to 7.18, 17.5: each refusal's number by a name, which the code has in capitals. Assumes nothing.
 use Prim.Native.Nat.{ℕ}
 
 -- 7.1: fewer bytes than a header has
@@ -68,6 +68,10 @@ noRoom = 16
 -- 7.17: a leg without any Dubins case
 abbrev pub noCase : ℕ
 noCase = 17
+
+-- 7.18: no strip plan
+abbrev pub notStrips : ℕ
+notStrips = 18
 
 -- 17.5: a slice that is lent too short, or lists that differ in length: no number of section 7
 abbrev pub misfit : ℕ

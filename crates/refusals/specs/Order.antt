@@ -1,11 +1,11 @@
--- Holds clauses 6.1, 6.2, 7.1 to 7.17: what the definitions of this crate come to: the numbers, the order of a chain, and the lowest place of a
+-- Holds clauses 6.1, 6.2, 7.1 to 7.18: what the definitions of this crate come to: the numbers, the order of a chain, and the lowest place of a
 -- sweep. A definition that is changed together with the code that it describes is refused here. Assumes nothing.
 use mathlib.Core.Path.{_≡_}
 use mathlib.Core.Bool.{true, false, Bool}
 use mathlib.Core.List.{List, [], _∷_}
 use Prim.Native.Nat.{ℕ, _+_, _-_, _≤_, _<_}
 use Rattle.refusals.specs.declared.Refusal.{Refusal}
-use Rattle.refusals.specs.Numbers.{fileTooShort, noMark, noVersion, noSerial, wrongArea, wrongRecord, tooNew, pointCount, courseCount, equalNeighbours, sharpCorner, shortLeg, noPosition, noState, otherSerial, noRoom, noCase, misfit}
+use Rattle.refusals.specs.Numbers.{fileTooShort, noMark, noVersion, noSerial, wrongArea, wrongRecord, tooNew, pointCount, courseCount, equalNeighbours, sharpCorner, shortLeg, noPosition, noState, otherSerial, noRoom, noCase, notStrips, misfit}
 use Rattle.refusals.specs.Outcome.{Outcome, good, refused, check, andThen, refusalOf, isGood}
 use Rattle.refusals.specs.Sweep.{Done, done, sweep, every}
 
@@ -13,7 +13,7 @@ use Rattle.refusals.specs.Sweep.{Done, done, sweep, every}
 abbrev pub named : List ℕ
 named =
     fileTooShort ∷ noMark ∷ noVersion ∷ noSerial ∷ wrongArea ∷ wrongRecord ∷ tooNew ∷ pointCount ∷ courseCount ∷ equalNeighbours ∷ sharpCorner ∷ shortLeg
-    ∷ noPosition ∷ noState ∷ otherSerial ∷ noRoom ∷ noCase ∷ misfit ∷ []
+    ∷ noPosition ∷ noState ∷ otherSerial ∷ noRoom ∷ noCase ∷ notStrips ∷ misfit ∷ []
 
 abbrev pub refusal : ℕ → ℕ → Refusal
 refusal number place = record { number = number; place = place }
@@ -36,7 +36,7 @@ pub record Lowest (k i : ℕ) : Type 0 where
 
 -- the literals: numbers; a chain whose second check fails; places 0, 1 and 2 with the numbers 0, 0 and 1
 pub record Literals : Type 0 where
-  pub numbers : named ≡ 1 ∷ 2 ∷ 3 ∷ 4 ∷ 5 ∷ 6 ∷ 7 ∷ 8 ∷ 9 ∷ 10 ∷ 11 ∷ 12 ∷ 13 ∷ 14 ∷ 15 ∷ 16 ∷ 17 ∷ 100 ∷ []
+  pub numbers : named ≡ 1 ∷ 2 ∷ 3 ∷ 4 ∷ 5 ∷ 6 ∷ 7 ∷ 8 ∷ 9 ∷ 10 ∷ 11 ∷ 12 ∷ 13 ∷ 14 ∷ 15 ∷ 16 ∷ 17 ∷ 18 ∷ 100 ∷ []
   pub second : check true 8 (check false 9 (good done)) ≡ refused 9 0
   pub third : sweep (λ (j : ℕ). j - 1) 3 0 ≡ refused 1 3
 

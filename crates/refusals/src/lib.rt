@@ -57,6 +57,9 @@ pub const NO_ROOM: u8 = 16;
 // A leg without any Dubins case.
 pub const NO_CASE: u8 = 17;
 
+// No strip plan.
+pub const NOT_STRIPS: u8 = 18;
+
 // A slice that is lent too short, or lists that differ in length: 17.5. It is no number of section 7.
 pub const MISFIT: u8 = 100;
 

@@ -1,5 +1,5 @@
 -- A file made of a header and a record area: refusals 1 to 5 pass it, and it gives back the version, the serial and the records that it was
--- made of. Assumes nothing.
+-- made of. The header of any file gives 1 to 5 and no other number. Assumes nothing.
 use mathlib.Core.Path.{_≡_, refl, ap, _∙_}
 use mathlib.Core.Bool.{true}
 use mathlib.Core.List.{List, _++_}
@@ -14,6 +14,7 @@ use Rattle.refusals.specs.Numbers.{fileTooShort, noMark, noVersion, noSerial, w
 use Rattle.refusals.specs.Outcome.{good}
 use Rattle.refusals.specs.Sweep.{done}
 use Rattle.refusals.proofs.OutcomeLaws.{check-true, check-means}
+use Rattle.refusals.proofs.GivenLaws.{Gives, gives-check}
 use Rattle.records.specs.Numbers.{u16At, u32At, u16Bytes, u32Bytes}
 use Rattle.records.specs.Walk.{Walked, walk, fills, flat}
 use Rattle.records.specs.Gather.{headerLength}
@@ -89,3 +90,16 @@ module _ (f : List ℕ) (passed : headerOf f ≡ good done) where
       let a = both-first (eqb (areaOf f) (length f - headerLength)) (leb (areaOf f) mostArea) (last-tests .1) in
       let b = both-second (eqb (areaOf f) (length f - headerLength)) (leb (areaOf f) mostArea) (last-tests .1) in
       omega (arith, length-drop headerLength f, eqb-true (areaOf f) (length f - headerLength) a, leb-true (areaOf f) mostArea b)
+
+-- ---- the numbers that there are
+abbrev pub GivenByHeader : ℕ → Type 0
+GivenByHeader number = (fileTooShort ≤ number) × (number ≤ wrongArea)
+
+pub header-gives : (f : List ℕ) → Gives GivenByHeader (headerOf f)
+unfolding headerOf
+header-gives f =
+    gives-check GivenByHeader _ fileTooShort _ (omega arith, omega arith)
+    (gives-check GivenByHeader _ noMark _ (omega arith, omega arith)
+    (gives-check GivenByHeader _ noVersion _ (omega arith, omega arith)
+    (gives-check GivenByHeader _ noSerial _ (omega arith, omega arith)
+    (gives-check GivenByHeader _ wrongArea _ (omega arith, omega arith) tt))))

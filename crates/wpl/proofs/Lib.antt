@@ -9,5 +9,6 @@ pub mod PlanPartLaws
 pub mod WriteLaws
 pub mod RoundTripLaws
 pub mod LongLaws
+pub mod GivenLaws
 pub mod StartLaws
 pub mod OrderLaws

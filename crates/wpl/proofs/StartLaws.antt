@@ -27,6 +27,7 @@ use Rattle.wpl.proofs.LoadLaws.{finish-makes}
 use Rattle.wpl.proofs.HeaderLaws.{serial-some}
 use Rattle.wpl.proofs.WriteLaws.{not-valid}
 use Rattle.wpl.proofs.LongLaws.{long-file}
+use Rattle.wpl.proofs.GivenLaws.{load-numbers}
 
 -- ---- the rules have passed what is made into a plan
 finish-passed : (serial : ℕ) (a : Parts) (s : State) → finishOf serial a ≡ good s → isGood (rulesIn a) ≡ true
@@ -86,5 +87,6 @@ starts reader file =
       serial = load-serial reader file;
       unflown = none-flown reader file;
       unwritten = none-written reader file;
+      numbers = load-numbers reader file;
       long = λ n h k. long-file file n h k reader;
     }
