@@ -24,9 +24,6 @@ const READERS: u64 = 4294967296;
 
 const TEN: u64 = 10;
 
-// One byte more than a file can have. A longer one is refused as its first bytes are (the promise of wpl::load).
-const MOST_PLAN: usize = 8204;
-
 // The bytes of a fix, and of its serial and of each of its numbers.
 const FIX_BYTES: usize = 16;
 
@@ -369,7 +366,7 @@ fn fly_plan(reader: u32) {
     if opened.descriptor < 0 {
         return;
     }
-    let mut space = [0u8; MOST_PLAN];
+    let mut space = [0u8; report::FILE_ROOM];
     let read = console::fill(opened.descriptor, &name[..length], &mut space);
     libc::close(opened.descriptor);
     let count = read.count;

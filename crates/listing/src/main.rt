@@ -4,16 +4,13 @@
 // How many arguments there are, the program's own name.
 const ARGUMENTS: usize = 1;
 
-// One byte more than a file can have. Longer input is refused as its first bytes are (the promise of wpl::load).
-const MOST: usize = 8204;
-
 fn main() {
     if ARGUMENTS < os::arg_count() {
         let usage = b"usage: listing < PLAN\n";
         console::complain(usage, usage.len());
         return;
     }
-    let mut file = [0u8; MOST];
+    let mut file = [0u8; report::FILE_ROOM];
     let read = console::read(&mut file);
     let count = read.count;
     if read.failed {

@@ -22,9 +22,7 @@ use Rattle.manager.proofs.StateLaws.{valid-means}
 use Rattle.wpl.specs.declared.Loaded.{Loaded}
 use Rattle.wpl.specs.Load.{loadOf, loadedOf}
 use Rattle.wpl.proofs.StartLaws.{load-valid}
-use Rattle.report.specs.Holds.{ListingHolds}
-use Rattle.report.specs.Listing.{newline, lineOf, linesTo, planText, loadedText, listingRoom, listedIn, listedLength}
-use Rattle.report.proofs.HoldsLaws.{listing-holds}
+use Rattle.report.specs.Listing.{newline, lineOf, linesTo, planText, loadedText, listedIn, listedLength}
 
 -- ---- line by line
 lines-next : (p : Plan) (i : ℕ) → linesTo p (i + 1) ≡ linesTo p i ++ lineOf (p .head .mode) (i + 1) (planPoint p i) (planCourse p i)
@@ -77,21 +75,21 @@ pub text-refused : (version : ℕ) (x : Loaded) → (x .refusal ≡ 0 → ⊥) �
 unfolding loadedText
 text-refused version x h = choose-false _ _ _ (ne-eqb (x .refusal) 0 h)
 
--- ---- at the front of a buffer, or not at all
-module _ (text old : List ℕ) where
+-- ---- at the front of a buffer, or not at all, with what the promise says besides
+module _ (room : ℕ) (text old : List ℕ) {Holds : Type 0} (holds : Holds) where
   abbrev Listed : List ℕ → ℕ → Type 0
-  Listed new end = (end ≡ listedLength text old) × ((new ≡ listedIn text old) × ((end ≤ length old) × ListingHolds))
+  Listed new end = (end ≡ listedLength room text old) × ((new ≡ listedIn room text old) × ((end ≤ length old) × Holds))
 
-  pub too-short : length old < listingRoom → Listed old 0
+  pub too-short : length old < room → Listed old 0
   unfolding listedLength listedIn
   too-short h =
-      let t = lt-leb listingRoom (length old) h in
-      (sym (choose-false _ _ _ t), (sym (choose-false _ _ _ t), (omega arith, listing-holds)))
+      let t = lt-leb room (length old) h in
+      (sym (choose-false _ _ _ t), (sym (choose-false _ _ _ t), (omega arith, holds)))
 
-  pub whole : {new : List ℕ} {end : ℕ} → listingRoom ≤ length old → length new ≡ length old → Wrote 0 text old new end → Listed new end
+  pub whole : {new : List ℕ} {end : ℕ} → room ≤ length old → length new ≡ length old → Wrote 0 text old new end → Listed new end
   unfolding listedLength listedIn
   whole h k w =
-      let t = le-leb listingRoom (length old) h in (
+      let t = le-leb room (length old) h in (
         omega (arith, w .ends) ∙ sym (choose-true _ _ _ t),
-        (w .bytes ∙ at-front text old ∙ sym (choose-true _ _ _ t), (omega (arith, k, w .inside), listing-holds)),
+        (w .bytes ∙ at-front text old ∙ sym (choose-true _ _ _ t), (omega (arith, k, w .inside), holds)),
       )

@@ -1,4 +1,4 @@
--- Clauses 16.1 to 16.3: the listing of a file, or the line of its refusal. Assumes nothing.
+-- Clauses 16.1 to 16.3, 16.8: the listing of a file, or the line of its refusal. Assumes nothing.
 use mathlib.Core.List.{List, [], _++_}
 use Prim.Native.Nat.{ℕ, zero, suc}
 use lib.Dec.{eqb, leb}
@@ -30,10 +30,11 @@ modeText Lines = ascii "lines"
 modeText Fillets = ascii "fillets"
 modeText Dubins = ascii "dubins"
 
+-- 16.2, 16.8: the first line, without its end: a strip listing's goes on
 unfoldable pub titleOf : ℕ → Head → List ℕ
 titleOf version h =
     countText (ascii "plan ") (h .serial)
-    ++ (countText (ascii " version ") version ++ (ascii " mode " ++ (modeText (h .mode) ++ (countText (ascii " points ") (h .count) ++ newline))))
+    ++ (countText (ascii " version ") version ++ (ascii " mode " ++ (modeText (h .mode) ++ countText (ascii " points ") (h .count))))
 
 -- 16.2: a course, or a dash
 unfoldable pub courseText : Mode → ℕ → List ℕ
@@ -53,7 +54,7 @@ linesTo p zero = []
 linesTo p (suc i) = linesTo p i ++ lineOf (p .head .mode) (suc i) (planPoint p i) (planCourse p i)
 
 unfoldable pub planText : ℕ → Plan → List ℕ
-planText version p = titleOf version (p .head) ++ linesTo p (p .head .count)
+planText version p = titleOf version (p .head) ++ (newline ++ linesTo p (p .head .count))
 
 -- refusal 0 stands for none
 unfoldable pub loadedText : ℕ → Loaded → List ℕ
@@ -63,13 +64,13 @@ loadedText version x =
 unfoldable pub listingOf : List ℕ → List ℕ
 listingOf file = loadedText (versionOf file) (loadedOf (loadOf newest file))
 
--- no listing is longer: a title of at most 96 bytes, and for each of 64 points a line of at most 108, by the types of their numbers
+-- no listing is longer: a first line of at most 96 bytes, and for each of 64 points a line of at most 108, by the types of their numbers
 abbrev pub listingRoom : ℕ
 listingRoom = 7008
 
--- at the front of a buffer that has this room, and its length; in a shorter one nothing, and 0
-unfoldable pub listedIn : List ℕ → List ℕ → List ℕ
-listedIn text old = choose (leb listingRoom (length old)) (over text old) old
+-- at the front of a buffer that has the room of a listing, and its length; in a shorter one nothing, and 0
+unfoldable pub listedIn : ℕ → List ℕ → List ℕ → List ℕ
+listedIn room text old = choose (leb room (length old)) (over text old) old
 
-unfoldable pub listedLength : List ℕ → List ℕ → ℕ
-listedLength text old = choose (leb listingRoom (length old)) (length text) 0
+unfoldable pub listedLength : ℕ → List ℕ → List ℕ → ℕ
+listedLength room text old = choose (leb room (length old)) (length text) 0

@@ -20,6 +20,9 @@ ghost use Rattle.report.specs.Fix.{floatsTo, senseText, commandText, gui
 ghost use Rattle.report.specs.Holds.{ListingHolds, FixLineHolds, AnswersHold};
 ghost use Rattle.report.specs.Listing.{space, modeText, titleOf, courseText, pointText, lineOf, linesTo, planText, listingOf, listingRoom, listedIn, listedLength};
 
+// Room for the bytes of a file: one more than a file can have. A longer one is refused as its first bytes are (the promise of wpl::load).
+pub const FILE_ROOM: usize = records::HEADER_LENGTH + wpl::MOST_AREA + 1;
+
 // Room for every listing.
 pub const LISTING_ROOM: usize = 7008;
 
@@ -59,17 +62,17 @@ fn put_mode(mode: Mode, at: usize, buffer: &mut [u8]) -> usize
     }
 }
 
-fn put_title(version: u16, head: Head, buffer: &mut [u8]) -> usize
-    requires { ⌜ 96 ≤ length (now buffer) ⌝ }
-    ensures { λ r. ⌜ Wrote 0 (titleOf version head) (now (buffer .entry)) (now (buffer .exit)) r × (r ≤ 96) ⌝ }
+// The first line of a listing, without its end.
+pub fn put_title(version: u16, head: Head, buffer: &mut [u8]) -> usize
+    requires { ⌜ 95 ≤ length (now buffer) ⌝ }
+    ensures { λ r. ⌜ Wrote 0 (titleOf version head) (now (buffer .entry)) (now (buffer .exit)) r × (r ≤ 95) ⌝ }
 {
     let mode = head.mode;
     let a = text::put_count(b"plan ", head.serial as u64, 0, buffer);
     let b = text::put_count(b" version ", version as u64, a, buffer);
     let c = text::put_text(b" mode ", b, buffer);
     let d = put_mode(mode, c, buffer);
-    let e = text::put_count(b" points ", head.count as u64, d, buffer);
-    text::put_byte(b'\n', e, buffer)
+    text::put_count(b" points ", head.count as u64, d, buffer)
 }
 
 fn wide(x: i32) -> i64
@@ -155,14 +158,15 @@ fn put_plan(version: u16, plan: Plan, buffer: &mut [u8]) -> usize
     ensures { λ r. ⌜ Wrote 0 (planText version plan) (now (buffer .entry)) (now (buffer .exit)) r ⌝ }
 {
     let head = plan.head;
-    let lines = put_title(version, head, buffer);
+    let end = put_title(version, head, buffer);
+    let lines = text::put_byte(b'\n', end, buffer);
     put_lines(plan, lines, buffer)
 }
 
 // The listing of a file as the newest reader loads it, and its length. In a buffer of fewer than LISTING_ROOM bytes nothing is written, and the length is 0.
 pub fn listing(file: &[u8], buffer: &mut [u8]) -> usize
-    ensures { λ r. ⌜ r ≡ listedLength (listingOf (now (file .entry))) (now (buffer .entry)) ⌝ }
-    ensures { λ _. ⌜ now (buffer .exit) ≡ listedIn (listingOf (now (file .entry))) (now (buffer .entry)) ⌝ }
+    ensures { λ r. ⌜ r ≡ listedLength listingRoom (listingOf (now (file .entry))) (now (buffer .entry)) ⌝ }
+    ensures { λ _. ⌜ now (buffer .exit) ≡ listedIn listingRoom (listingOf (now (file .entry))) (now (buffer .entry)) ⌝ }
     ensures { λ r. ⌜ r ≤ length (now (buffer .entry)) ⌝ }
     ensures { λ _. ⌜ ListingHolds ⌝ }
 {

@@ -6,7 +6,8 @@ use Rattle.text.proofs.WrittenLaws.{then}
 use Rattle.plan.specs.Limits.{mostPoints}
 use Rattle.wpl.specs.declared.Loaded.{Loaded}
 use Rattle.wpl.specs.Header.{versionOf}
-use Rattle.report.specs.Listing.{listingOf}
+use Rattle.report.specs.Listing.{listingOf, listingRoom}
+use Rattle.report.proofs.HoldsLaws.{listing-holds}
 use Rattle.report.proofs.ListingLaws.{loaded-few, text-loads, text-refused, too-short, whole}
 use borrow.Author.Needs.{needs}
 use Rattle.report.proofs.listing.Statement.{statement}
@@ -15,7 +16,7 @@ use Rattle.report.proofs.listing.Tie as tie
 returns : tie.Need-returns
 returns c =
     let s = c .before .before .before in
-    too-short _ (s .args .buffer .now) (c .if1 .taken)
+    too-short listingRoom _ (s .args .buffer .now) listing-holds (c .if1 .taken)
 
 load-requires : tie.Need-load-requires
 load-requires c κs = search needs
@@ -43,7 +44,7 @@ returns-2 c =
     let l = k .before .before in
     let i = l .before in
     let s = i .before .before .before in
-    whole (listingOf (s .args .file .now)) (s .args .buffer .now) (omega (arith, i .if1 .left)) (search needs)
+    whole listingRoom (listingOf (s .args .file .now)) (s .args .buffer .now) listing-holds (omega (arith, i .if1 .left)) (search needs)
     (rw (← l .load .ensures .0, ← u .u16-at .ensures, text-loads (u .u16-at .result) (l .load .result) (k .if2 .taken)) (p .put-plan .ensures))
 
 cast-put-refusal : tie.Need-cast-put-refusal
@@ -67,7 +68,7 @@ returns-3 c =
     let l = k .before .before in
     let i = l .before in
     let s = i .before .before .before in
-    whole (listingOf (s .args .file .now)) (s .args .buffer .now) (omega (arith, i .if1 .left)) (search needs)
+    whole listingRoom (listingOf (s .args .file .now)) (s .args .buffer .now) listing-holds (omega (arith, i .if1 .left)) (search needs)
     (rw (← l .load .ensures .0, text-refused (versionOf (s .args .file .now)) (l .load .result) (k .if2 .left))
     (then (p .put-refusal .ensures .0 .0) (n .put-byte .ensures)))
 

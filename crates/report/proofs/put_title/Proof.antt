@@ -36,17 +36,13 @@ slice-aggregate-put-count-3 c = search needs
 put-count-requires-3 : tie.Need-put-count-requires-3
 put-count-requires-3 c κs = search needs
 
-put-byte-requires : tie.Need-put-byte-requires
-put-byte-requires c κs = search needs
-
 same-length : tie.Need-same-length
 same-length c = search needs
 
 returns : tie.Need-returns
 unfolding titleOf
 returns c =
-    let n = c .before .before in
-    let e = n .before .before .before .before in
+    let e = c .before .before in
     let d = e .before .before .before .before .before in
     let t = d .before .before .before .before in
     let b = t .before .before .before .before .before in
@@ -55,8 +51,7 @@ returns c =
       then (a .put-count .ensures .0 .0)
           (then (b .put-count2 .ensures .0 .0)
           (then (t .put-text .ensures)
-          (then (d .put-mode .ensures .0)
-          (then (e .put-count3 .ensures .0 .0) (n .put-byte .ensures))))),
+          (then (d .put-mode .ensures .0) (e .put-count3 .ensures .0 .0)))),
       omega (
         arith,
         a .put-count .ensures .0 .1,
@@ -64,7 +59,6 @@ returns c =
         t .put-text .ensures .ends,
         d .put-mode .ensures .1,
         e .put-count3 .ensures .0 .1,
-        n .put-byte .ensures .ends,
       ),
     )
 
@@ -82,6 +76,5 @@ put-title-spec =
     put-mode-requires
     slice-aggregate-put-count-3
     put-count-requires-3
-    put-byte-requires
     same-length
     returns)
