@@ -1,0 +1,2 @@
+pub mod StripListing
+pub mod Holds
