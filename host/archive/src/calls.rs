@@ -53,6 +53,15 @@ mod c {
             answer: *mut u32,
             answer_length: usize,
         ) -> u32;
+        pub fn farnkuppel_strips(state: *const i32, state_length: usize, answer: *mut u32, answer_length: usize)
+            -> u32;
+        pub fn farnkuppel_strip(
+            state: *const i32,
+            state_length: usize,
+            number: u32,
+            answer: *mut u32,
+            answer_length: usize,
+        ) -> u32;
     }
 }
 
@@ -138,4 +147,14 @@ pub fn note(file: &[u8], number: u32, note: &mut [u8], answer: &mut [u32]) -> u3
             answer.len(),
         )
     }
+}
+
+pub fn strips(state: &[i32], answer: &mut [u32]) -> u32 {
+    // SAFETY: every pointer comes with the length of its slice, and the slices are apart.
+    unsafe { c::farnkuppel_strips(state.as_ptr(), state.len(), answer.as_mut_ptr(), answer.len()) }
+}
+
+pub fn strip(state: &[i32], number: u32, answer: &mut [u32]) -> u32 {
+    // SAFETY: every pointer comes with the length of its slice, and the slices are apart.
+    unsafe { c::farnkuppel_strip(state.as_ptr(), state.len(), number, answer.as_mut_ptr(), answer.len()) }
 }

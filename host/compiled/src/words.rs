@@ -3,7 +3,8 @@
 use archive::size::COMMAND_NUMBERS;
 use archive::{number, size};
 use archive::{Answer as AnswerWords, Command as CommandNumbers, CIRCLE_CENTRE, LINE_DIRECTION, LINE_START};
-use reference::{Answer, Command, Mode, State};
+use reference::strips::{self, Fault, Row};
+use reference::{Answer, Command, Mode, Refusal, State};
 use std::fmt::UpperHex;
 
 pub use archive::size::{
@@ -13,6 +14,10 @@ pub use archive::size::{
 };
 
 pub type Words = archive::State;
+
+/// The words of a check for strips, and of a strip.
+pub type StripsWords = [u32; size::STRIPS_WORDS];
+pub type StripWords = [u32; size::STRIP_WORDS];
 
 fn mode_word(mode: Mode) -> u32 {
     match mode {
@@ -141,6 +146,40 @@ pub fn of_no_state(words: &Words) -> (AnswerWords, CommandNumbers) {
     let mut answer = progress_words(index, phase, finished);
     answer[size::ANSWER_REFUSAL] = number::REFUSED_NO_STATE;
     (answer, [0.0; COMMAND_NUMBERS])
+}
+
+/// A check for strips: how many there are, or what is at fault.
+pub fn of_check(checked: &Result<u32, Fault>) -> StripsWords {
+    let accepted = Fault { refusal: Refusal::plain(number::ACCEPTED), rule: 0 };
+    let fault = checked.err().unwrap_or(accepted);
+    let mut words = [0; size::STRIPS_WORDS];
+    words[size::STRIPS_REFUSAL] = fault.refusal.number;
+    words[size::STRIPS_PLACE] = fault.refusal.place;
+    words[size::STRIPS_RULE] = fault.rule;
+    words[size::STRIPS_COUNT] = checked.unwrap_or(0);
+    words
+}
+
+/// The check for strips of the state that words hold.
+pub fn strips_of(words: &Words) -> StripsWords {
+    let no_state = Fault { refusal: Refusal::plain(number::REFUSED_NO_STATE), rule: 0 };
+    of_check(&to_state(words).map_or(Err(no_state), |state| strips::check(&state)))
+}
+
+/// A strip's row, 0 where there is none.
+fn of_row(row: Option<Row>) -> StripWords {
+    let mut words = [0; size::STRIP_WORDS];
+    if let Some(row) = row {
+        words[size::STRIP_NUMBER] = row.number;
+        words[size::STRIP_COURSE] = row.course;
+        words[size::STRIP_LENGTH] = row.length;
+    }
+    words
+}
+
+/// The strip with a number of those that words hold.
+pub fn strip_of(words: &Words, number: u32) -> StripWords {
+    of_row(to_state(words).and_then(|state| strips::row(&state, number)))
 }
 
 pub fn hex_of_words<T: UpperHex>(words: &[T]) -> String {

@@ -1,13 +1,17 @@
 //! Each call made twice, by the reference and by the compiled manager, and every word compared.
 
 use crate::notes::Notes;
-use compiled::calls::{self, ANSWER_WORDS, CHECK_WORDS, COMMAND_NUMBERS, LOAD_WORDS, MISFIT, NOTES_WORDS, WRITE_WORDS};
+use crate::strips::Strips;
+use compiled::calls::{
+    self, ANSWER_WORDS, CHECK_WORDS, COMMAND_NUMBERS, LOAD_WORDS, MISFIT, NOTES_WORDS, STRIPS_WORDS, STRIP_WORDS,
+    WRITE_WORDS,
+};
 use compiled::words::{self, hex_of_bytes, hex_of_words, Words, SERIAL, STATE_WORDS};
 use reference::{load, write, State};
 
 /// What lent memory holds before a call, so that a word too few or too many shows.
 pub const PATTERN: u32 = 0xA5A5_A5A5;
-const STATE_PATTERN: i32 = PATTERN as i32;
+pub const STATE_PATTERN: i32 = PATTERN as i32;
 pub const BYTE_PATTERN: u8 = 0x5A;
 /// So much more is lent than needed, and must stay as it was.
 pub const SPARE: usize = 3;
@@ -29,6 +33,7 @@ pub struct Tally {
     pub last_legs: [u64; 3],
     pub ends: [u64; 3],
     pub notes: Notes,
+    pub strips: Strips,
 }
 
 /// Seed and number of the case at hand.
@@ -170,12 +175,16 @@ impl Tally {
             calls::write(&lent, 3, &mut room, &mut answer[..less(WRITE_WORDS)]),
             calls::check(file, 3, &mut answer[..less(CHECK_WORDS)]),
             calls::notes(file, &mut answer[..less(NOTES_WORDS)]),
+            calls::strips(&lent[..less(STATE_WORDS)], &mut answer),
+            calls::strips(&lent, &mut answer[..less(STRIPS_WORDS)]),
+            calls::strip(&lent[..less(STATE_WORDS)], 1, &mut answer),
+            calls::strip(&lent, 1, &mut answer[..less(STRIP_WORDS)]),
         ];
         let untouched = lent == *state
             && answer == [PATTERN; ANSWER_WORDS]
             && command.map(f32::to_bits) == [PATTERN; COMMAND_NUMBERS]
             && room == [BYTE_PATTERN; 1200];
-        if results != [MISFIT; 9] || !untouched {
+        if results != [MISFIT; 13] || !untouched {
             let (file, held) = (hex_of_bytes(file), hex_of_words(state));
             let seen = format!("short by {cut} results {results:?} untouched {untouched}");
             self.disagree(case, format!("{seen} file {file} state {held}"));

@@ -1,6 +1,6 @@
 //! Differential tests of the compiled path manager against the reference.
 //!
-//! differ loads|fixes|writes|states|notes|all N SEED
+//! differ loads|fixes|writes|states|notes|strips|all N SEED
 
 mod chance;
 mod compare;
@@ -9,13 +9,15 @@ mod notes;
 mod plans;
 mod positions;
 mod runs;
+mod strip_plans;
+mod strips;
 
 use compare::Tally;
 use compiled::calls::{interfaces, INTERFACE};
 use std::fmt::{Debug, Display};
 use std::process::ExitCode;
 
-/// From this many loads, fixes or writes on, all that must come of them must have come.
+/// From this many loads, fixes, writes or checks for strips on, all that must come of them must have come.
 const FULL_RUN: u64 = 100_000;
 
 /// The refusals that must come. 17 is none of them: with ends three radii apart every Dubins leg has a case.
@@ -32,7 +34,8 @@ fn run(part: &str, n: u64, seed: u64, tally: &mut Tally) -> bool {
         "writes" => runs::writes(tally, n, seed),
         "states" => runs::states(tally, n, seed),
         "notes" => notes::run(tally, n, seed),
-        "all" => ["loads", "fixes", "writes", "states", "notes"].iter().for_each(|part| {
+        "strips" => strips::run(tally, n, seed),
+        "all" => ["loads", "fixes", "writes", "states", "notes", "strips"].iter().for_each(|part| {
             run(part, n, seed, tally);
         }),
         _ => return false,
@@ -56,6 +59,7 @@ fn print_counts(tally: &Tally) {
     println!("{}", counts("last leg", MODES, &tally.last_legs));
     println!("{}", counts("ends", MODES, &tally.ends));
     println!("{}", tally.notes.counts());
+    println!("{}", tally.strips.counts());
 }
 
 /// False where something is missing in a full run, which is said.
@@ -78,13 +82,16 @@ fn missing_modes(came: &[u64; 3]) -> Vec<&'static str> {
 /// Prints what came; false where something is missing in a full run.
 fn report(tally: &Tally) -> bool {
     print_counts(tally);
-    let Tally { loads, fixes, writes, load_refusals, fix_refusals, write_refusals, last_legs, ends, .. } = tally;
+    let Tally { loads, fixes, writes, load_refusals, fix_refusals, write_refusals, last_legs, ends, strips, .. } =
+        tally;
     let each = [
         all_came(*loads, "refusals that never came in loads", missing_refusals(&OF_LOADS, load_refusals)),
         all_came(*fixes, "refusals that never came in fixes", missing_refusals(&OF_FIXES, fix_refusals)),
         all_came(*writes, "refusals that never came in writes", missing_refusals(&OF_WRITES, write_refusals)),
         all_came(*fixes, "modes whose last leg never came in fixes", missing_modes(last_legs)),
         all_came(*fixes, "modes that no fix ended", missing_modes(ends)),
+        all_came(strips.checks, "what never came of strips", strips.missing()),
+        all_came(strips.checks, "numbers of strips that no strip plan had", strips.missing_plans()),
     ];
     each.iter().all(|whole| *whole)
 }
@@ -98,12 +105,13 @@ fn main() -> ExitCode {
     let numbers: Vec<u64> = arguments.iter().skip(1).filter_map(|text| text.parse().ok()).collect();
     let mut tally = Tally::default();
     if arguments.len() != 3 || numbers.len() != 2 || !run(&arguments[0], numbers[0], numbers[1], &mut tally) {
-        eprintln!("usage: differ loads|fixes|writes|states|notes|all N SEED");
+        eprintln!("usage: differ loads|fixes|writes|states|notes|strips|all N SEED");
         return ExitCode::from(2);
     }
     let whole = report(&tally);
-    let Tally { loads, fixes, writes, notes, disagreements, .. } = tally;
-    println!("loads {loads} fixes {fixes} writes {writes} notes {} disagreements {disagreements}", notes.asked);
+    let Tally { loads, fixes, writes, notes, strips, disagreements, .. } = tally;
+    let (notes, strips) = (notes.asked, strips.checks);
+    println!("loads {loads} fixes {fixes} writes {writes} notes {notes} strips {strips} disagreements {disagreements}");
     if whole && disagreements == 0 {
         ExitCode::SUCCESS
     } else {

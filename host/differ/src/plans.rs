@@ -33,7 +33,7 @@ fn random_count(c: &mut Chance) -> usize {
     }
 }
 
-fn random_radius(c: &mut Chance) -> i64 {
+pub fn random_radius(c: &mut Chance) -> i64 {
     match c.below(8) {
         0 => 50,
         1 => 10_000,
@@ -43,7 +43,7 @@ fn random_radius(c: &mut Chance) -> i64 {
     }
 }
 
-fn random_down(c: &mut Chance) -> i64 {
+pub fn random_down(c: &mut Chance) -> i64 {
     match c.below(12) {
         0 => DOWN,
         1 => -DOWN,
@@ -111,7 +111,7 @@ fn inside(point: [i64; 3]) -> bool {
     point[0].abs() <= NORTH_EAST && point[1].abs() <= NORTH_EAST
 }
 
-fn moved(from: [i64; 3], course: f64, length: f64, down: i64) -> [i64; 3] {
+pub fn moved(from: [i64; 3], course: f64, length: f64, down: i64) -> [i64; 3] {
     let angle = course * TAU / 4096.0;
     [from[0] + (length * angle.cos()).round() as i64, from[1] + (length * angle.sin()).round() as i64, down]
 }
@@ -253,7 +253,7 @@ fn dubins_leg(c: &mut Chance, radius: i64) -> i64 {
     }
 }
 
-fn random_course(c: &mut Chance) -> i64 {
+pub fn random_course(c: &mut Chance) -> i64 {
     if c.one_in(2) {
         c.pick(&[0, 512, 1024, 2048, 3072, 4095, 1, 1023])
     } else {

@@ -1,4 +1,4 @@
-//! The runs: loads, fixes, writes, states. That of notes stands with their comparison.
+//! The runs: loads, fixes, writes, states. Those of notes and strips stand with their comparisons.
 
 use crate::chance::Chance;
 use crate::compare::{Case, Tally};
@@ -70,7 +70,7 @@ fn random_name(c: &mut Chance, serial: u32) -> u32 {
     }
 }
 
-fn break_words(c: &mut Chance, words: &mut Words) {
+pub fn break_words(c: &mut Chance, words: &mut Words) {
     for _ in 0..c.between(1, 2) {
         let place = match c.below(4) {
             0 | 1 => c.below(NORTHS),
@@ -106,7 +106,7 @@ fn random_word(c: &mut Chance, was: i32) -> i32 {
 }
 
 /// An index, phase and finished that the mode allows, every other time on one of the last two legs.
-fn random_progress(c: &mut Chance, state: &mut State) {
+pub fn random_progress(c: &mut Chance, state: &mut State) {
     let first = if c.one_in(2) { state.count - 1 } else { 2 };
     state.index = c.between(i64::from(first), i64::from(state.count)) as u32;
     state.phase = c.between(1, i64::from(state.last_phase())) as u32;
@@ -163,7 +163,7 @@ pub fn states(tally: &mut Tally, n: u64, seed: u64) {
 }
 
 /// Any progress, or one about the end that a mode allows and another may not.
-fn break_progress(c: &mut Chance, words: &mut Words) {
+pub fn break_progress(c: &mut Chance, words: &mut Words) {
     let count = i64::from(words[COUNT]);
     let (index, phase, finished) = if c.one_in(2) {
         (c.between(count - 1, count), c.pick(&[1, 2, 4, 5]), c.between(0, 1))

@@ -11,13 +11,14 @@ use crate::picture;
 use crate::plan::{self, Plan, Refusal};
 use crate::simulation::{self, End};
 use crate::stop::{trouble, Answered, Status, Stop};
+use crate::strips;
 use crate::text;
 use archive::number::{INTERFACE, NEWEST};
 use archive::{calls, RELEASE};
 use std::ffi::OsString;
 use std::io::Write;
 
-pub const COMMANDS: [Command; 9] = [
+pub const COMMANDS: [Command; 10] = [
     Command {
         name: "check",
         files: &["PLAN"],
@@ -27,6 +28,14 @@ pub const COMMANDS: [Command; 9] = [
         run: check,
     },
     Command { name: "list", files: &["PLAN"], options: &[], does: "list a plan's points", help: help::LIST, run: list },
+    Command {
+        name: "strips",
+        files: &["PLAN"],
+        options: &[],
+        does: "list the strips of a strip plan",
+        help: help::STRIPS,
+        run: list_strips,
+    },
     Command {
         name: "notes",
         files: &["PLAN"],
@@ -118,6 +127,20 @@ fn list(call: &Call, out: &mut dyn Write) -> Answered {
     match loaded(&file, NEWEST, out)? {
         Some(plan) => lines(out, text::listing(&plan)),
         None => Ok(Status::Refused),
+    }
+}
+
+fn list_strips(call: &Call, out: &mut dyn Write) -> Answered {
+    let file = Input::open(&call.files[0])?.plan()?;
+    let Some(plan) = loaded(&file, NEWEST, out)? else {
+        return Ok(Status::Refused);
+    };
+    match strips::of(&plan) {
+        Ok(strips) => lines(out, text::strip_listing(&plan, &strips)),
+        Err(refusal) => {
+            writeln!(out, "{refusal}")?;
+            Ok(Status::Refused)
+        }
     }
 }
 

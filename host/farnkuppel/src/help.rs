@@ -28,6 +28,20 @@ Lists PLAN as the newest reader loads it: a line 'plan SERIAL version VERSION mo
 'NUMBER NORTH EAST DOWN COURSE': decimetres, and a course in 1/4096 of a circle, clockwise from north, or - where the plan has none.
 ";
 
+pub const STRIPS: &str = "\
+Lists the strips of PLAN as the newest reader loads it: a line 'plan SERIAL version VERSION mode dubins points COUNT strips STRIPS', then
+a line for each strip, 'NUMBER COURSE LENGTH': its course, and its length over ground in decimetres, rounded down.
+
+A strip plan is a dubins plan with an even number of points: 1 and 2, 3 and 4 and so on are its strips, each of which keeps three rules:
+
+  1  its two courses are equal
+  2  they equal the bearing of its leg, in whole units of 1/4096 of a circle, rounded down
+  3  they are half a circle, 2048, from those of the strip before; the first strip has none
+
+Any other plan is refused, 'refused 18 at STRIP rule RULE: no strip plan: FAULT', by the first strip at fault and the first rule that it
+breaks, which FAULT says in words: 0 and 0 where it is no dubins plan or has an odd number of points, and FAULT says which.
+";
+
 pub const NOTES: &str = "\
 Prints a line 'NUMBER TEXT' for each note of PLAN. Bytes that are not printable ASCII, and the backslash, are written \\xNN.
 ";
@@ -77,8 +91,8 @@ length of the plan's legs. The exit status is 0 all the same.
 ";
 
 pub const DRAW: &str = "\
-Draws PLAN and the flight that FIXES make along it, as SVG, into PICTURE: the plan's legs, points, circles and courses, the track by
-phase, and crosses where fixes were refused.
+Draws PLAN and the flight that FIXES make along it, as SVG, into PICTURE: the plan's legs, points, circles and courses, the numbers of its
+strips where it is a strip plan, the track by phase, and crosses where fixes were refused.
 ";
 
 /// The help of the whole: a line for each command.

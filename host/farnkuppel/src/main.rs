@@ -15,6 +15,7 @@ mod place;
 mod plan;
 mod simulation;
 mod stop;
+mod strips;
 mod text;
 
 use std::env;

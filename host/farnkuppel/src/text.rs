@@ -1,4 +1,4 @@
-//! Plans as text (docs/TEXT.md): what `list` and `text` print, and what `new` reads.
+//! Plans as text (docs/TEXT.md): what `list`, `strips` and `text` print, and what `new` reads.
 
 use crate::arguments::{number_of, whole};
 use crate::input::Input;
@@ -6,6 +6,7 @@ use crate::layout::{self, Draft, COURSE, NOTE, POINT, RADIUS, SPEED};
 use crate::names;
 use crate::plan::{self, Mode, Plan, Refusal};
 use crate::stop::Stop;
+use crate::strips::Strip;
 use archive::number;
 
 /// The first line of a plan's listing.
@@ -25,6 +26,13 @@ fn point_lines(plan: &Plan) -> impl Iterator<Item = String> {
 /// The listing of a plan: the lines that the program `listing` prints.
 pub fn listing(plan: &Plan) -> Vec<String> {
     [title(plan)].into_iter().chain(point_lines(plan)).collect()
+}
+
+/// The listing of a strip plan: the lines that the program `strip_listing` prints.
+pub fn strip_listing(plan: &Plan, strips: &[Strip]) -> Vec<String> {
+    let first = format!("{} strips {}", title(plan), strips.len());
+    let line = |strip: &Strip| format!("{} {} {}", strip.number, strip.course, strip.length);
+    [first].into_iter().chain(strips.iter().map(line)).collect()
 }
 
 /// A plan with all that its file has: records that are no part of the plan as comments, where they stand.

@@ -26,6 +26,7 @@ pub mod sound;
 // What is asked from outside.
 pub mod file;
 pub mod fix;
+pub mod strips;
 
 pub use file::{load, note, notes, write};
 pub use fix::{Answer, Command};

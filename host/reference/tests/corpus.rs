@@ -1,8 +1,8 @@
 //! The expected answers of a corpus folder, named by the environment variable CORPUS; skipped where that is unset or empty.
 //!
-//! Its folder requests/04 decides the last leg of lines and fillets, and the folder itself all else.
+//! Its folder requests/04 decides the last leg of lines and fillets, requests/01 the strips, and the folder itself all else.
 
-use reference::{load, note, write, Answer, Command, Mode, State};
+use reference::{load, note, strips, write, Answer, Command, Mode, State};
 use std::collections::BTreeMap;
 use std::path::{Path, PathBuf};
 
@@ -23,6 +23,10 @@ fn corpus() -> Option<PathBuf> {
 
 fn last_leg_corpus() -> Option<PathBuf> {
     corpus().map(|folder| folder.join("requests/04"))
+}
+
+fn strips_corpus() -> Option<PathBuf> {
+    corpus().map(|folder| folder.join("requests/01"))
 }
 
 /// The rows of a table, some at least.
@@ -208,4 +212,29 @@ fn last_leg_flights() {
 fn last_leg_states() {
     let Some(folder) = last_leg_corpus() else { return };
     compare_states(&folder, |_, _| true).assert_some(&[Mode::Lines, Mode::Fillets]);
+}
+
+/// The rows of the strips with these numbers in the column of the corpus, a dash where there is none.
+fn listed_strips(state: &State, numbers: impl Iterator<Item = u32>) -> String {
+    let found = numbers.filter_map(|number| strips::row(state, number));
+    let rows: Vec<String> = found.map(|row| format!("{},{},{}", row.number, row.course, row.length)).collect();
+    if rows.is_empty() {
+        "-".into()
+    } else {
+        rows.join(";")
+    }
+}
+
+#[test]
+fn strip_plans() {
+    let Some(folder) = strips_corpus() else { return };
+    for row in rows(&folder, "strips.tsv") {
+        let state = state_of(&row);
+        let checked = strips::check(&state);
+        let got = checked.map_or_else(|fault| [fault.refusal.number, fault.refusal.place, fault.rule], |_| [0; 3]);
+        assert_eq!(got, ["refusal", "place", "rule"].map(|name| whole(&row[name])), "{row:?}");
+        assert_eq!(checked.unwrap_or(0) as usize, listed(&row["rows"]).count(), "{row:?}");
+        // Numbers that no strip has are asked too.
+        assert_eq!(listed_strips(&state, 0..=state.count.saturating_add(1)), row["rows"], "{row:?}");
+    }
 }

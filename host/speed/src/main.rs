@@ -1,4 +1,5 @@
-//! Fixes and loads timed against the reference, both in one run on the same bytes: `speed [FIXES [LOADS]]`.
+//! Fixes, loads and checks for strips timed against the reference, both in one run on the same bytes: `speed [FIXES [LOADS]]`, and as many checks
+//! as loads.
 
 mod plans;
 mod timing;
@@ -7,15 +8,18 @@ use plans::{plan, simulated};
 use reference::state::PLACES;
 use reference::{write, Mode};
 use std::process::ExitCode;
-use timing::{fixes, loads, Times};
+use timing::{fixes, loads, strips, Times};
 
 const MODES: [(Mode, &str); 3] = [(Mode::Lines, "lines"), (Mode::Fillets, "fillets"), (Mode::Dubins, "dubins")];
 const COUNTS: [usize; 3] = [3, 16, PLACES];
 
+/// A strip plan has an even number of points.
+const STRIP_COUNTS: [usize; 3] = [4, 16, PLACES];
+
 fn row(name: &str, count: usize, what: &str, times: Times) {
     let Times { compiled, words, native } = times;
     let (by_words, by_native) = (compiled / words, compiled / native);
-    println!("{name:8} {count:3} {what:5} {compiled:9.1} {words:9.1} {by_words:6.2} {native:9.1} {by_native:6.2}");
+    println!("{name:8} {count:3} {what:6} {compiled:9.1} {words:9.1} {by_words:6.2} {native:9.1} {by_native:6.2}");
 }
 
 fn main() -> ExitCode {
@@ -29,7 +33,7 @@ fn main() -> ExitCode {
             return ExitCode::from(2);
         }
     };
-    println!("mode       N       proved ns  words ns  ratio native ns  ratio");
+    println!("mode       N        proved ns  words ns  ratio native ns  ratio");
     for (mode, name) in MODES {
         for count in COUNTS {
             let state = plan(mode, count);
@@ -37,6 +41,9 @@ fn main() -> ExitCode {
             row(name, count, "fix", fixes(&state, &simulated(&state), fix_count));
             row(name, count, "load", loads(&file, load_count));
         }
+    }
+    for count in STRIP_COUNTS {
+        row("dubins", count, "strips", strips(&plan(Mode::Dubins, count), load_count));
     }
     ExitCode::SUCCESS
 }

@@ -3,9 +3,11 @@
 use super::frame::{Extent, Frame, LEFT, TOP};
 use super::legend::{colour, cross, legend};
 use super::marks::{legs, points};
+use super::strips::numbers;
 use super::track::{Circle, Step, Track};
 use crate::place::Place;
 use crate::plan::{Mode, Plan};
+use crate::strips;
 
 /// The most places that are drawn of a track, and the pixels between two of them: at the least, and where the track is
 /// thinned no further.
@@ -145,6 +147,7 @@ fn captions(plan: &Plan, track: &Track) -> (String, String) {
 pub fn svg(plan: &Plan, flown: &Track) -> String {
     let frame = Frame::of(&extent(plan, flown));
     let shown: Vec<Place> = flown.refused.iter().copied().filter(|place| frame.shows(*place)).collect();
+    let strips = strips::of(plan).unwrap_or_default();
     let (title, caption) = captions(plan, flown);
     let (wide, tall) = frame.picture();
     let mut svg = format!(
@@ -161,6 +164,7 @@ pub fn svg(plan: &Plan, flown: &Track) -> String {
         svg += &crosses(&frame, &shown);
     }
     svg += &points(&frame, plan);
-    svg += &legend(&frame, plan, flown, shown.len());
+    svg += &numbers(&frame, plan, &strips);
+    svg += &legend(&frame, plan, strips.first(), flown, shown.len());
     svg + "</svg>\n"
 }

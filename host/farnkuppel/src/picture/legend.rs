@@ -1,8 +1,10 @@
 //! What stands beside the map: the phases of the plan's mode, the signs, the scale and north.
 
 use super::frame::{Frame, TOP};
+use super::strips::number;
 use super::track::Track;
 use crate::plan::{Mode, Plan};
+use crate::strips::Strip;
 use archive::number::{
     PHASE_DUBINS_END_FIRST, PHASE_DUBINS_END_LAST, PHASE_DUBINS_LINE, PHASE_DUBINS_START_FIRST,
     PHASE_DUBINS_START_LAST, PHASE_FILLETS_CIRCLE, PHASE_FILLETS_LINE, PHASE_LINES_LINE,
@@ -41,8 +43,9 @@ const GAP: f64 = 16.0;
 const INDENT: f64 = 38.0;
 const ROW: f64 = 22.0;
 
-/// The line that stands for lines.
+/// The line that stands for lines, and its middle.
 const STROKE: &str = "M0 0H30";
+const MIDDLE: f64 = 15.0;
 
 /// Half the size of a cross, in pixels.
 const CROSS: f64 = 3.0;
@@ -80,12 +83,17 @@ impl Rows {
         self.y += ROW;
     }
 
+    /// What the sign that was drawn last stands for.
+    fn meaning(&mut self, text: &str) {
+        self.svg += &format!("<text x=\"{}\" y=\"{:.1}\">{text}</text>\n", self.x + INDENT, self.y + 4.0);
+        self.y += ROW;
+    }
+
     /// A row: the data of a path with its attributes, and what it stands for.
     fn sign(&mut self, attributes: &str, data: &str, text: &str) {
         let (x, y) = (self.x, self.y);
         self.svg += &format!("<path transform=\"translate({x} {y:.1})\" {attributes} d=\"{data}\"/>\n");
-        self.svg += &format!("<text x=\"{}\" y=\"{:.1}\">{text}</text>\n", x + INDENT, y + 4.0);
-        self.y += ROW;
+        self.meaning(text);
     }
 
     /// The mode's phases, each with the number of fixes that were answered it, and refused fixes where there are some.
@@ -98,15 +106,15 @@ impl Rows {
         }
         let refused = track.refused.len();
         if refused != 0 {
-            self.sign("class=\"cross\"", &cross(15.0, 0.0), &format!("refused: {refused}"));
+            self.sign("class=\"cross\"", &cross(MIDDLE, 0.0), &format!("refused: {refused}"));
         }
         if refused != shown {
             self.heading(&format!("{} of them not on the map", refused - shown));
         }
     }
 
-    /// The signs of the plan that the mode has.
-    fn plan(&mut self, plan: &Plan) {
+    /// The signs of the plan that the mode has, and a strip's number where there is one.
+    fn plan(&mut self, plan: &Plan, strip: Option<&Strip>) {
         self.y += ROW / 2.0;
         self.heading("the plan");
         self.sign("class=\"leg\"", STROKE, "leg");
@@ -115,6 +123,10 @@ impl Rows {
         }
         if plan.mode() == Mode::Dubins {
             self.sign("class=\"arrow\"", "M4 0H26m-7-4l7 4l-7 4", "course");
+        }
+        if let Some(strip) = strip {
+            self.svg += &number(self.x + MIDDLE, self.y, strip.number);
+            self.meaning("strip");
         }
     }
 }
@@ -136,10 +148,10 @@ fn scale(frame: &Frame) -> String {
     )
 }
 
-/// The legend of a plan and its flight, of whose refused fixes so many are shown.
-pub fn legend(frame: &Frame, plan: &Plan, track: &Track, shown: usize) -> String {
+/// The legend of a plan, with one of its strips where it has some, and of its flight, of whose refused fixes so many are shown.
+pub fn legend(frame: &Frame, plan: &Plan, strip: Option<&Strip>, track: &Track, shown: usize) -> String {
     let mut rows = Rows { svg: String::new(), x: frame.right + GAP, y: TOP + 4.0 };
     rows.fixes(plan, track, shown);
-    rows.plan(plan);
+    rows.plan(plan, strip);
     rows.svg + &scale(frame)
 }

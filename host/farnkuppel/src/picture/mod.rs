@@ -4,6 +4,7 @@ mod drawing;
 mod frame;
 mod legend;
 mod marks;
+mod strips;
 mod track;
 
 use crate::fixes::Fix;
