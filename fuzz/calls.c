@@ -174,6 +174,62 @@ struct written write_of(const int32_t *state, uint32_t version, size_t room)
     return got;
 }
 
+/* A state that is only read, with spare words behind it. */
+static int32_t *lend_state(const int32_t *from, size_t states, uint8_t fill)
+{
+    int32_t *state = lend(&state_memory, states * WORD, fill);
+    memcpy(state, from, STATE_BYTES);
+    return state;
+}
+
+static void take_state(const int32_t *from, size_t states, uint8_t fill)
+{
+    take_back(&state_memory, states * WORD, STATE_BYTES, fill);
+    HOLD(memcmp(state_memory.end - states * WORD, from, STATE_BYTES) == 0);
+}
+
+static void strips_once(const int32_t *from, size_t spare, uint8_t fill, struct strips *got)
+{
+    size_t states = FARNKUPPEL_STATE_WORDS + spare, answers = FARNKUPPEL_STRIPS_WORDS + spare;
+    int32_t *state = lend_state(from, states, fill);
+    uint32_t *answer = lend(&answer_memory, answers * WORD, fill);
+    got->result = farnkuppel_strips(state, states, answer, answers);
+    take_state(from, states, fill);
+    take_back(&answer_memory, answers * WORD, sizeof got->answer, fill);
+    memcpy(got->answer, answer, sizeof got->answer);
+}
+
+struct strips strips_of(const int32_t *state)
+{
+    struct strips got, again;
+    strips_once(state, 0, first, &got);
+    strips_once(state, SPARE, second, &again);
+    HOLD(memcmp(&got, &again, sizeof got) == 0);
+    HOLD(got.result == got.answer[FARNKUPPEL_STRIPS_REFUSAL]);
+    return got;
+}
+
+static void strip_once(const int32_t *from, uint32_t number, size_t spare, uint8_t fill, struct strip *got)
+{
+    size_t states = FARNKUPPEL_STATE_WORDS + spare, answers = FARNKUPPEL_STRIP_WORDS + spare;
+    int32_t *state = lend_state(from, states, fill);
+    uint32_t *answer = lend(&answer_memory, answers * WORD, fill);
+    got->result = farnkuppel_strip(state, states, number, answer, answers);
+    take_state(from, states, fill);
+    take_back(&answer_memory, answers * WORD, sizeof got->answer, fill);
+    memcpy(got->answer, answer, sizeof got->answer);
+}
+
+struct strip strip_of(const int32_t *state, uint32_t number)
+{
+    struct strip got, again;
+    strip_once(state, number, 0, first, &got);
+    strip_once(state, number, SPARE, second, &again);
+    HOLD(memcmp(&got, &again, sizeof got) == 0);
+    HOLD(got.result == FARNKUPPEL_ACCEPTED);
+    return got;
+}
+
 static size_t less(size_t length, size_t cut)
 {
     return cut < length ? length - cut : 0;
@@ -202,6 +258,10 @@ static uint32_t call_short(int call, const uint8_t *file, size_t length, struct 
         result = farnkuppel_check(file, length, FARNKUPPEL_NEWEST, answer, n.answer);
     if (call == 5)
         result = farnkuppel_notes(file, length, answer, n.answer);
+    if (call == 6)
+        result = farnkuppel_strips(state, n.state, answer, n.answer);
+    if (call == 7)
+        result = farnkuppel_strip(state, n.state, 1, answer, n.answer);
     take_back(&state_memory, n.state * WORD, 0, first);
     take_back(&answer_memory, n.answer * WORD, 0, first);
     take_back(&bytes_memory, n.bytes * element, 0, first);
@@ -211,16 +271,16 @@ static uint32_t call_short(int call, const uint8_t *file, size_t length, struct 
 void short_slices(struct file file, size_t cut)
 {
     const size_t states = FARNKUPPEL_STATE_WORDS, numbers = FARNKUPPEL_COMMAND_NUMBERS, room = FARNKUPPEL_NOTE_BYTES;
-    const size_t answers[] = {FARNKUPPEL_LOAD_WORDS, FARNKUPPEL_ANSWER_WORDS, FARNKUPPEL_WRITE_WORDS,
-                              FARNKUPPEL_NOTE_WORDS, FARNKUPPEL_CHECK_WORDS,  FARNKUPPEL_NOTES_WORDS};
-    const size_t elements[] = {1, sizeof(float), 1, 1, 1, 1}, lengths[] = {0, numbers, MOST_ROOM, room, 0, 0};
+    const size_t answers[] = {FARNKUPPEL_LOAD_WORDS,  FARNKUPPEL_ANSWER_WORDS, FARNKUPPEL_WRITE_WORDS,  FARNKUPPEL_NOTE_WORDS,
+                              FARNKUPPEL_CHECK_WORDS, FARNKUPPEL_NOTES_WORDS,  FARNKUPPEL_STRIPS_WORDS, FARNKUPPEL_STRIP_WORDS};
+    const size_t elements[] = {1, sizeof(float), 1, 1, 1, 1, 1, 1}, lengths[] = {0, numbers, MOST_ROOM, room, 0, 0, 0, 0};
     uint8_t *bytes = lend_copy(&file_memory, file.bytes, file.length);
-    for (int call = 0; call < 6; call++) {
+    for (int call = 0; call < 8; call++) {
         struct lengths short_answer = {states, less(answers[call], cut), lengths[call]};
         struct lengths short_state = {less(states, cut), answers[call], lengths[call]};
         struct lengths short_bytes = {states, answers[call], less(lengths[call], cut)};
         HOLD(call_short(call, bytes, file.length, short_answer, elements[call]) == FARNKUPPEL_REFUSED_MISFIT);
-        if (call < 3)
+        if (call < 3 || call >= 6)
             HOLD(call_short(call, bytes, file.length, short_state, elements[call]) == FARNKUPPEL_REFUSED_MISFIT);
         if (call == 1 || call == 3)
             HOLD(call_short(call, bytes, file.length, short_bytes, elements[call]) == FARNKUPPEL_REFUSED_MISFIT);

@@ -39,6 +39,16 @@ struct written {
     uint8_t bytes[MOST_ROOM];
 };
 
+struct strips {
+    uint32_t result;
+    uint32_t answer[FARNKUPPEL_STRIPS_WORDS];
+};
+
+struct strip {
+    uint32_t result;
+    uint32_t answer[FARNKUPPEL_STRIP_WORDS];
+};
+
 /* Gets the memory that is lent, and looks that the archive is the header's. Once, before any call. */
 void prepare(void);
 
@@ -52,6 +62,10 @@ struct fix fix_of(const int32_t *state, uint32_t serial, const float *position);
 
 /* Into `room` bytes, at most MOST_ROOM. */
 struct written write_of(const int32_t *state, uint32_t version, size_t room);
+
+/* The check of a state for strips, and one strip of it. */
+struct strips strips_of(const int32_t *state);
+struct strip strip_of(const int32_t *state, uint32_t number);
 
 /* Every call with one slice `cut` elements too short: refused, and nothing is written. */
 void short_slices(struct file file, size_t cut);

@@ -2,6 +2,7 @@
  * the list of fuzz/faults. The linker puts these in the place of the proved functions (--wrap). */
 #include "farnkuppel.h"
 
+#include <math.h>
 #include <string.h>
 
 uint32_t __real_farnkuppel_load(const uint8_t *, size_t, uint32_t, int32_t *, size_t, uint32_t *, size_t);
@@ -11,6 +12,8 @@ uint32_t __real_farnkuppel_refusal(const uint8_t *, size_t, uint32_t);
 uint32_t __real_farnkuppel_note(const uint8_t *, size_t, uint32_t, uint8_t *, size_t, uint32_t *, size_t);
 uint32_t __real_farnkuppel_check(const uint8_t *, size_t, uint32_t, uint32_t *, size_t);
 uint32_t __real_farnkuppel_notes(const uint8_t *, size_t, uint32_t *, size_t);
+uint32_t __real_farnkuppel_strips(const int32_t *, size_t, uint32_t *, size_t);
+uint32_t __real_farnkuppel_strip(const int32_t *, size_t, uint32_t, uint32_t *, size_t);
 uint32_t __wrap_farnkuppel_load(const uint8_t *, size_t, uint32_t, int32_t *, size_t, uint32_t *, size_t);
 uint32_t __wrap_farnkuppel_fix(int32_t *, size_t, uint32_t, float, float, float, uint32_t *, size_t, float *, size_t);
 uint32_t __wrap_farnkuppel_write(const int32_t *, size_t, uint32_t, uint8_t *, size_t, uint32_t *, size_t);
@@ -18,6 +21,8 @@ uint32_t __wrap_farnkuppel_refusal(const uint8_t *, size_t, uint32_t);
 uint32_t __wrap_farnkuppel_note(const uint8_t *, size_t, uint32_t, uint8_t *, size_t, uint32_t *, size_t);
 uint32_t __wrap_farnkuppel_check(const uint8_t *, size_t, uint32_t, uint32_t *, size_t);
 uint32_t __wrap_farnkuppel_notes(const uint8_t *, size_t, uint32_t *, size_t);
+uint32_t __wrap_farnkuppel_strips(const int32_t *, size_t, uint32_t *, size_t);
+uint32_t __wrap_farnkuppel_strip(const int32_t *, size_t, uint32_t, uint32_t *, size_t);
 
 /* The speed of a record that ends at `to`. */
 static unsigned speed_before(const uint8_t *file, size_t to)
@@ -136,5 +141,95 @@ uint32_t __wrap_farnkuppel_notes(const uint8_t *file, size_t length, uint32_t *a
         answer[FARNKUPPEL_NOTES_COUNT]++;
     if (FAULT == 23 && answers > FARNKUPPEL_NOTES_WORDS)
         answer[FARNKUPPEL_NOTES_WORDS] = 0;
+    return result;
+}
+
+/* An answer to a check for strips. */
+static uint32_t answered(uint32_t *answer, uint32_t refusal, uint32_t place, uint32_t rule, uint32_t count)
+{
+    answer[FARNKUPPEL_STRIPS_REFUSAL] = refusal;
+    answer[FARNKUPPEL_STRIPS_PLACE] = place;
+    answer[FARNKUPPEL_STRIPS_RULE] = rule;
+    answer[FARNKUPPEL_STRIPS_COUNT] = count;
+    return refusal;
+}
+
+/* The answer where a strip is at fault, or another. */
+static uint32_t at_fault(const int32_t *state, uint32_t *answer)
+{
+    uint32_t count = (uint32_t)state[FARNKUPPEL_STATE_COUNT] / 2, rule = answer[FARNKUPPEL_STRIPS_RULE];
+    if (FAULT == 28 && answer[FARNKUPPEL_STRIPS_PLACE] == count)
+        return answered(answer, FARNKUPPEL_ACCEPTED, 0, FARNKUPPEL_RULE_NONE, count);
+    if (FAULT == 29 && rule == FARNKUPPEL_RULE_EQUAL)
+        answer[FARNKUPPEL_STRIPS_RULE] = FARNKUPPEL_RULE_BEARING;
+    if ((FAULT == 30 && rule == FARNKUPPEL_RULE_BEARING) || (FAULT == 31 && rule == FARNKUPPEL_RULE_OPPOSITE))
+        return answered(answer, FARNKUPPEL_ACCEPTED, 0, FARNKUPPEL_RULE_NONE, count);
+    return FARNKUPPEL_REFUSED_NOT_STRIPS;
+}
+
+/* The answer of a strip plan, or another where courses fall by a half circle. */
+static uint32_t falling(const int32_t *state, uint32_t *answer)
+{
+    const int32_t *courses = state + FARNKUPPEL_STATE_COURSES;
+    for (uint32_t strip = 2; strip <= answer[FARNKUPPEL_STRIPS_COUNT]; strip++)
+        if (FAULT == 32 && courses[2 * strip - 1] < courses[2 * strip - 3])
+            return answered(answer, FARNKUPPEL_REFUSED_NOT_STRIPS, strip, FARNKUPPEL_RULE_OPPOSITE, 0);
+    return FARNKUPPEL_ACCEPTED;
+}
+
+/* A check that takes the phase as a number of 8 bits. */
+static uint32_t narrow_strips(const int32_t *state, size_t states, uint32_t *answer, size_t answers)
+{
+    int32_t copy[FARNKUPPEL_STATE_WORDS];
+    if (FAULT != 33 || states < FARNKUPPEL_STATE_WORDS)
+        return __real_farnkuppel_strips(state, states, answer, answers);
+    memcpy(copy, state, sizeof copy);
+    copy[FARNKUPPEL_STATE_PHASE] &= 0xFF;
+    return __real_farnkuppel_strips(copy, FARNKUPPEL_STATE_WORDS, answer, answers);
+}
+
+uint32_t __wrap_farnkuppel_strips(const int32_t *state, size_t states, uint32_t *answer, size_t answers)
+{
+    uint32_t result = narrow_strips(state, states, answer, answers);
+    if (result == FARNKUPPEL_REFUSED_MISFIT)
+        return result;
+    if (FAULT == 24 && result == FARNKUPPEL_REFUSED_NOT_STRIPS)
+        return answered(answer, FARNKUPPEL_REFUSED_NO_CASE, answer[1], answer[2], 0);
+    if (FAULT == 25 && result == FARNKUPPEL_REFUSED_NOT_STRIPS && state[FARNKUPPEL_STATE_MODE] == FARNKUPPEL_MODE_LINES)
+        answer[FARNKUPPEL_STRIPS_PLACE] = 1;
+    if (FAULT == 26 && result == FARNKUPPEL_REFUSED_NOT_STRIPS)
+        answer[FARNKUPPEL_STRIPS_COUNT] = (uint32_t)state[FARNKUPPEL_STATE_COUNT] / 2;
+    if (FAULT == 27 && state[FARNKUPPEL_STATE_INDEX] > 2)
+        return answered(answer, FARNKUPPEL_REFUSED_NO_STATE, 0, FARNKUPPEL_RULE_NONE, 0);
+    if (FAULT == 34 && answers > FARNKUPPEL_STRIPS_WORDS)
+        answer[FARNKUPPEL_STRIPS_WORDS] = 0;
+    if (FAULT == 35 && result == FARNKUPPEL_ACCEPTED)
+        ((int32_t *)(uintptr_t)state)[FARNKUPPEL_STATE_INDEX]++;
+    if (answer[FARNKUPPEL_STRIPS_PLACE] != 0)
+        return at_fault(state, answer);
+    return result == FARNKUPPEL_ACCEPTED ? falling(state, answer) : result;
+}
+
+/* The length of a strip in three dimensions. */
+static uint32_t steep_length(const int32_t *state, uint32_t number)
+{
+    static const int blocks[] = {FARNKUPPEL_STATE_NORTHS, FARNKUPPEL_STATE_EASTS, FARNKUPPEL_STATE_DOWNS};
+    double square = 0;
+    for (int part = 0; part < 3; part++) {
+        const int32_t *end = state + blocks[part] + 2 * number - 1;
+        square += ((double)end[0] - end[-1]) * ((double)end[0] - end[-1]);
+    }
+    return (uint32_t)sqrt(square);
+}
+
+uint32_t __wrap_farnkuppel_strip(const int32_t *state, size_t states, uint32_t number, uint32_t *answer, size_t answers)
+{
+    uint32_t result = __real_farnkuppel_strip(state, states, number, answer, answers);
+    if (result == FARNKUPPEL_REFUSED_MISFIT)
+        return FAULT == 38 && states >= FARNKUPPEL_STATE_WORDS ? FARNKUPPEL_ACCEPTED : result;
+    if (FAULT == 36 && answer[FARNKUPPEL_STRIP_NUMBER])
+        answer[FARNKUPPEL_STRIP_LENGTH] = steep_length(state, number);
+    if (FAULT == 37 && number > 1 && answer[FARNKUPPEL_STRIP_NUMBER] == 0)
+        __real_farnkuppel_strip(state, states, number - 1, answer, answers);
     return result;
 }

@@ -21,6 +21,7 @@ enum call {
     WRITE,    /* a version (1 byte), how much shorter the buffer is (2 bytes) */
     SET,      /* a word's place (2 bytes) and value: in a copy of the state */
     FIX_SET,  /* three f32: a fix on that copy */
+    STRIPS,   /* a number (4 bytes): the strips of the state and of that copy, and the one with this number */
     CALLS
 };
 
@@ -34,6 +35,7 @@ struct flight {
     int32_t copy[FARNKUPPEL_STATE_WORDS]; /* with words set as the input says */
     double north, east, down;             /* the aircraft, in metres */
     uint32_t heading;
+    struct strips strips;                 /* of the plan as it was loaded */
     uint32_t fixes_left;                  /* that it may fly on by itself, so that no input takes long */
 };
 
@@ -114,6 +116,15 @@ static void fix_copy(struct flight *flight, struct input *in)
     memcpy(flight->copy, fix.state, sizeof flight->copy);
 }
 
+/* How far a plan is flown doesn't matter to its strips. */
+static void ask_strips(struct flight *flight, struct input *in)
+{
+    uint32_t asked = number(in, 4);
+    struct strips strips = strips_laws(flight->state, asked);
+    HOLD(memcmp(&strips, &flight->strips, sizeof strips) == 0);
+    strips_laws(flight->copy, asked);
+}
+
 static void one_call(struct flight *flight, struct input *in)
 {
     float p[3];
@@ -132,14 +143,16 @@ static void one_call(struct flight *flight, struct input *in)
     } else if (kind == SET) {
         uint32_t place = number(in, 2) % FARNKUPPEL_STATE_WORDS;
         flight->copy[place] = (int32_t)number(in, 4);
-    } else {
+    } else if (kind == FIX_SET) {
         fix_copy(flight, in);
+    } else {
+        ask_strips(flight, in);
     }
 }
 
-static void all_calls(const int32_t *state, struct input in)
+static void all_calls(const int32_t *state, struct strips strips, struct input in)
 {
-    struct flight flight = {.fixes_left = 200};
+    struct flight flight = {.strips = strips, .fixes_left = 200};
     memcpy(flight.state, state, sizeof flight.state);
     memcpy(flight.copy, state, sizeof flight.copy);
     place_over(&flight, 0);
@@ -188,6 +201,8 @@ int LLVMFuzzerTestOneInput(const uint8_t *data, size_t size)
     note_laws(file, load.result == FARNKUPPEL_ACCEPTED, asked);
     short_slices(file, 1 + asked);
     write_laws(load.state, FARNKUPPEL_NEWEST, 0);
-    all_calls(load.state, calls);
+    struct strips strips = strips_laws(load.state, asked);
+    HOLD((strips.result == FARNKUPPEL_REFUSED_NO_STATE) == (load.result != FARNKUPPEL_ACCEPTED));
+    all_calls(load.state, strips, calls);
     return 0;
 }

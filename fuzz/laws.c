@@ -3,6 +3,7 @@
 #include "lent.h"
 
 #include <math.h>
+#include <stdlib.h>
 #include <string.h>
 
 #define HEADER 11
@@ -119,6 +120,117 @@ void write_laws(const int32_t *state, uint32_t version, size_t less)
         HOLD(version <= (uint32_t)state[FARNKUPPEL_STATE_MODE]);
     if (number == FARNKUPPEL_ACCEPTED)
         comes_back(state, &written, version);
+}
+
+/* ---- strips: "points 1 and 2, 3 and 4 and so on are strips" */
+
+static int32_t course_of(const int32_t *state, int32_t point)
+{
+    return state[FARNKUPPEL_STATE_COURSES + point - 1];
+}
+
+static int equal_courses(const int32_t *state, int32_t strip)
+{
+    return course_of(state, 2 * strip - 1) == course_of(state, 2 * strip);
+}
+
+/* Their difference, which is less than a circle, is a half circle, modulo a whole one. */
+static int opposite_courses(const int32_t *state, int32_t strip)
+{
+    return abs(course_of(state, 2 * strip) - course_of(state, 2 * strip - 2)) == FARNKUPPEL_CIRCLE / 2;
+}
+
+static int32_t leg_part(const int32_t *state, int32_t strip, int part)
+{
+    return part_of(state, 2 * strip, part) - part_of(state, 2 * strip - 1, part);
+}
+
+/* How far the leg points to the right of the strip's course: from 0 to a unit where the course is its bearing. In doubles; the table of directions
+ * is rounded too, by less than 0.03 of a unit. */
+static double right_of_course(const int32_t *state, int32_t strip)
+{
+    double radians = atan2(leg_part(state, strip, 1), leg_part(state, strip, 0));
+    return remainder(radians * (FARNKUPPEL_CIRCLE / 6.283185307179586) - course_of(state, 2 * strip), FARNKUPPEL_CIRCLE);
+}
+
+static int may_be_bearing(const int32_t *state, int32_t strip)
+{
+    double right = right_of_course(state, strip);
+    return right > -0.03 && right < 1.03;
+}
+
+static int is_bearing(const int32_t *state, int32_t strip)
+{
+    double right = right_of_course(state, strip);
+    return right > 0.03 && right < 0.97;
+}
+
+/* A strip that is not at fault. */
+static void kept_law(const int32_t *state, int32_t strip)
+{
+    HOLD(equal_courses(state, strip));
+    HOLD(may_be_bearing(state, strip));
+    HOLD(strip == 1 || opposite_courses(state, strip));
+}
+
+/* The strip at fault, by the first rule that it breaks. */
+static void fault_law(const int32_t *state, int32_t strip, uint32_t rule)
+{
+    HOLD((rule == FARNKUPPEL_RULE_EQUAL) == !equal_courses(state, strip));
+    if (rule == FARNKUPPEL_RULE_BEARING)
+        HOLD(!is_bearing(state, strip));
+    if (rule == FARNKUPPEL_RULE_OPPOSITE)
+        HOLD(may_be_bearing(state, strip) && strip > 1 && !opposite_courses(state, strip));
+}
+
+/* "18, place is the strip, or 0, rule 0, where the plan isn't Dubins or has an odd number of points" */
+static void not_strips_law(const int32_t *state, uint32_t place, uint32_t rule)
+{
+    int32_t count = state[FARNKUPPEL_STATE_COUNT], strip = (int32_t)place;
+    int none = state[FARNKUPPEL_STATE_MODE] != FARNKUPPEL_MODE_DUBINS || count % 2;
+    HOLD(place <= (uint32_t)count / 2 && (place == 0) == none);
+    HOLD(rule <= FARNKUPPEL_RULE_OPPOSITE && (rule == FARNKUPPEL_RULE_NONE) == none);
+    for (int32_t before = 1; before < strip; before++)
+        kept_law(state, before);
+    if (strip)
+        fault_law(state, strip, rule);
+}
+
+/* "strip number, course and length in north and east by root" */
+static void row_law(const int32_t *state, uint32_t strips, uint32_t number)
+{
+    static const uint32_t none[FARNKUPPEL_STRIP_WORDS];
+    struct strip strip = strip_of(state, number);
+    if (number < 1 || number > strips) {
+        HOLD(memcmp(strip.answer, none, sizeof none) == 0);
+        return;
+    }
+    int64_t north = leg_part(state, (int32_t)number, 0), east = leg_part(state, (int32_t)number, 1);
+    int64_t length = strip.answer[FARNKUPPEL_STRIP_LENGTH], square = north * north + east * east;
+    HOLD(strip.answer[FARNKUPPEL_STRIP_NUMBER] == number);
+    HOLD(strip.answer[FARNKUPPEL_STRIP_COURSE] == (uint32_t)course_of(state, 2 * (int32_t)number));
+    HOLD(length * length <= square && square < (length + 1) * (length + 1));
+}
+
+struct strips strips_laws(const int32_t *state, uint32_t asked)
+{
+    struct strips found = strips_of(state);
+    uint32_t number = found.result, place = found.answer[FARNKUPPEL_STRIPS_PLACE], rule = found.answer[FARNKUPPEL_STRIPS_RULE];
+    uint32_t strips = found.answer[FARNKUPPEL_STRIPS_COUNT];
+    HOLD(number == FARNKUPPEL_ACCEPTED || number == FARNKUPPEL_REFUSED_NO_STATE || number == FARNKUPPEL_REFUSED_NOT_STRIPS);
+    uint32_t written = write_of(state, FARNKUPPEL_NEWEST, MOST_ROOM).result;
+    HOLD((number == FARNKUPPEL_REFUSED_NO_STATE) == (written == FARNKUPPEL_REFUSED_NO_STATE));
+    if (number == FARNKUPPEL_REFUSED_NOT_STRIPS)
+        not_strips_law(state, place, rule);
+    else
+        HOLD(place == 0 && rule == FARNKUPPEL_RULE_NONE);
+    HOLD(strips == (number == FARNKUPPEL_ACCEPTED ? (uint32_t)state[FARNKUPPEL_STATE_COUNT] / 2 : 0));
+    for (uint32_t strip = 1; strip <= strips; strip++)
+        kept_law(state, (int32_t)strip);
+    for (uint32_t strip = 0; strip <= strips + 1; strip++)
+        row_law(state, strips, strip);
+    row_law(state, strips, asked);
+    return found;
 }
 
 /* ---- fixes */

@@ -16,6 +16,9 @@ void note_laws(struct file file, int loads, uint32_t asked);
 /* What a state writes at a version, into a buffer that is so much shorter than it could be. */
 void write_laws(const int32_t *state, uint32_t version, size_t less);
 
+/* The strips of a state, all of them and the one that is asked for; the check comes back. */
+struct strips strips_laws(const int32_t *state, uint32_t asked);
+
 /* One fix; the answer comes back. */
 struct fix fix_laws(const int32_t *state, uint32_t serial, const float *position);
 

@@ -1,5 +1,5 @@
 #!/usr/bin/env python3
-"""Writes the seeds of the fuzzer: the sample plans, and small plans of each mode, version and refusal, with calls.
+"""Writes the seeds of the fuzzer: the sample plans, small plans of each mode, version and refusal, and strip plans, with calls.
 
 usage: seeds.py FOLDER        (the form of an input is in fuzz.c)
 """
@@ -11,7 +11,7 @@ ROOT = os.path.join(os.path.dirname(os.path.abspath(__file__)), "..")
 sys.path.insert(0, os.path.join(ROOT, "tests"))
 from header import numbers  # noqa: E402
 
-FIX, NAMED, NEAR, FLY, WRITE, SET, FIX_SET = range(7)
+FIX, NAMED, NEAR, FLY, WRITE, SET, FIX_SET, STRIPS = range(8)
 NEWEST, MENDED = 3, 128
 SERIAL, MODE, RADIUS_WORD, COUNT = numbers("STATE_SERIAL", "STATE_MODE", "STATE_RADIUS", "STATE_COUNT")
 INDEX, PHASE, FINISHED = numbers("STATE_INDEX", "STATE_PHASE", "STATE_FINISHED")
@@ -65,6 +65,10 @@ def set_word(place, value):
     return bytes([SET]) + struct.pack(">HI", place, value & 0xFFFFFFFF)
 
 
+def ask(number):
+    return bytes([STRIPS]) + struct.pack(">I", number)
+
+
 def recorded_fixes(path):
     data = read(path)
     return [bytes([NAMED]) + data[at:at + 16] for at in range(0, len(data), 16)]
@@ -76,6 +80,51 @@ RADIUS = pair(2, 200)
 
 def dubins(*courses):
     return [RADIUS] + [record for leg, course in zip(LEGS, courses) for record in (leg, pair(3, course))]
+
+
+def strips_north(count):
+    """Strips to the north and back, each as its start, its end, and their courses; one end is higher than the other."""
+    there = [((0, 800 * j, 0), (3000, 800 * j, -500), (0, 0)) for j in range(count)]
+    return [strip if j % 2 == 0 else turned(strip) for j, strip in enumerate(there)]
+
+
+def turned(strip):
+    """The strip flown the other way: it keeps all rules but the third."""
+    start, end, courses = strip
+    return end, start, tuple((course + 2048) % 4096 for course in courses)
+
+
+def other_courses(strip, *by):
+    start, end, courses = strip
+    return start, end, tuple((course + more) % 4096 for course, more in zip(courses, by))
+
+
+def veered(strip):
+    """The strip a unit beside its course, and its courses with it: (3000, 5) has the bearing 1, and (-3000, -5) 2049."""
+    start, (north, east, down), courses = other_courses(strip, 1, 1)
+    return start, (north, east + (5 if north else -5), down), courses
+
+
+def with_other(at, other):
+    """Three strips, one of them another."""
+    return [other(strip) if j == at else strip for j, strip in enumerate(strips_north(3))]
+
+
+def strip_plan(strips):
+    return plan(3, RADIUS, *[r for start, end, courses in strips for p, c in zip((start, end), courses) for r in (point(*p), pair(3, c))])
+
+
+def strips():
+    for count in [2, 3, 4, PLACES // 2]:
+        yield seed(strip_plan(strips_north(count)), *[ask(n) for n in [0, 1, count, count + 1, 257, 65537]], fly(100, 30), ask(2), asked=count)
+    for at in range(3):
+        for by in [(0, 1), (4095, 0), (1, 1), (2048, 2048)]:
+            yield seed(strip_plan(with_other(at, lambda strip: other_courses(strip, *by))), ask(1))
+        for other in [veered, turned]:
+            yield seed(strip_plan(with_other(at, other)), ask(1), fly(20, 30), ask(3))
+    file = strip_plan(strips_north(2))
+    yield seed(file, set_word(MODE, 1), ask(1), set_word(COUNT, 3), ask(1))
+    yield seed(file, set_word(PHASE, 257), ask(1))
 
 
 def samples():
@@ -125,7 +174,7 @@ def fixes():
     yield seed(file, *[fix(FIX, north, 1.0) for north in far], *[fix(FIX, 0.25, 0.05, down) for down in [10000.0, -10001.0]])
     yield seed(file, bytes([NAMED]) + struct.pack(">Ifff", 8, 0, 0, 0))
     for place, value in broken_words():
-        yield seed(file, set_word(place, value), fix(FIX_SET, 10.0, 10.0), fix(FIX_SET, 300.0, 400.0))
+        yield seed(file, set_word(place, value), ask(1), fix(FIX_SET, 10.0, 10.0), fix(FIX_SET, 300.0, 400.0))
     for phase in range(1, 6):
         yield seed(file, set_word(INDEX, 4), set_word(PHASE, phase), *[fix(FIX_SET, north, 400.0) for north in [-100.0, -50.0, 0.0, 50.0]])
 
@@ -142,7 +191,7 @@ def broken_words():
 
 def main(folder):
     os.makedirs(folder, exist_ok=True)
-    for made in [samples, loading, refused, fixes]:
+    for made in [samples, loading, refused, fixes, strips]:
         for place, data in enumerate(made()):
             with open(os.path.join(folder, f"{made.__name__}-{place:02}"), "wb") as file:
                 file.write(data)
