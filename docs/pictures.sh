@@ -2,6 +2,6 @@
 # Makes the pictures in this folder: a simulated flight of each sample plan, drawn over the plan.
 set -euo pipefail
 cd "$(dirname "$0")/.."
-for mode in lines fillets dubins; do
-    example/flight.sh "samples/$mode.wpl" "docs/$mode.svg"
+for plan in lines fillets dubins strips; do
+    example/flight.sh "samples/$plan.wpl" "docs/$plan.svg"
 done

@@ -1,7 +1,7 @@
 /* The path manager, for C99 and C++.
  *
- * libautopilot.a has load, fix and write; libdesk.a has the refusal of a file, and its notes. tools/archives makes both, in target/staticlib, and
- * tools/install puts them with this header under a prefix.
+ * libautopilot.a has load, fix and write; libdesk.a has the refusal of a file, its notes, and the strips of a plan. tools/archives makes both, in
+ * target/staticlib, and tools/install puts them with this header under a prefix.
  *
  * Both are for x86-64 under Linux, by the System V calling convention. They need memset, as the C library has it, and no other symbol.
  *
@@ -26,7 +26,7 @@ extern "C" {
 
 /* The release of the whole, archives, programs and pages: the only place of its number. CHANGELOG.md says what the three numbers mean and what each
  * release brought. The number of the interface is another thing, and most releases keep it. */
-#define FARNKUPPEL_RELEASE "2.1.0"
+#define FARNKUPPEL_RELEASE "2.2.0"
 
 /* The number of this interface. It grows whenever a word moves or a function changes; the first interface had none. An archive answers its own by
  * farnkuppel_interface: where that is another number, nothing below holds of the archive. */
@@ -64,17 +64,19 @@ extern "C" {
 #define FARNKUPPEL_STACK_LOAD 560
 #define FARNKUPPEL_STACK_FIX 1328
 #define FARNKUPPEL_STACK_WRITE 624
-#define FARNKUPPEL_STACK_REFUSAL 1472
-#define FARNKUPPEL_STACK_CHECK 1472
-#define FARNKUPPEL_STACK_NOTE 1504
-#define FARNKUPPEL_STACK_NOTES 1488
+#define FARNKUPPEL_STACK_REFUSAL 1632
+#define FARNKUPPEL_STACK_CHECK 1632
+#define FARNKUPPEL_STACK_NOTE 1664
+#define FARNKUPPEL_STACK_NOTES 1648
+#define FARNKUPPEL_STACK_STRIPS 528
+#define FARNKUPPEL_STACK_STRIP 528
 
 /* ---- refusals */
 
 /* A row for each refusal: its number, its name and the same in words; above the row when it is given, and the place that the answer has with it,
  * 0 where none is named. The first that applies is given. A load looks at the reader's version, then in the order of the numbers, at the records
  * one after the other for 6 and 7 and at the legs for 12 and 17; what is said of a load holds of farnkuppel_check too, and of farnkuppel_refusal,
- * which has no place. A fix looks for 14, 15, 13, a write for 14, 3, 7, 16. */
+ * which has no place. A fix looks for 14, 15, 13, a write for 14, 3, 7, 16, a check for strips for 14, 18. */
 #define FARNKUPPEL_REFUSALS(ROW) \
     /* A load: the file has under 11 bytes. */ \
     ROW(1, FILE_TOO_SHORT, "file shorter than its header") \
@@ -105,7 +107,7 @@ extern "C" {
     ROW(12, SHORT_LEG, "leg too short for its turns") \
     /* A fix: a number is NaN or infinite, or beyond the ranges above. */ \
     ROW(13, NO_POSITION, "position out of range or not a number") \
-    /* A fix or a write: the words hold no state, or one that breaks a rule. */ \
+    /* A fix, a write or a check for strips: the words hold no state, or one that breaks a rule. */ \
     ROW(14, NO_STATE, "state is empty or breaks a rule") \
     /* A fix: the serial that it names is not the state's. */ \
     ROW(15, OTHER_SERIAL, "serial of another plan") \
@@ -113,6 +115,9 @@ extern "C" {
     ROW(16, NO_ROOM, "no room for the file") \
     /* A load: there is no Dubins path for a leg. Place: the leg's end point, from 1. */ \
     ROW(17, NO_CASE, "no Dubins path for a leg") \
+    /* A check for strips, and never a load: a strip breaks a rule. Place: the first strip that does, from 1. \
+     * Or the plan is not Dubins, or has an odd number of points. Place: 0. */ \
+    ROW(18, NOT_STRIPS, "no strip plan") \
     /* Any call: a lent slice that has a least length is shorter. Nothing is written, so there is no place. */ \
     ROW(100, MISFIT, "lent memory is too short")
 
@@ -163,7 +168,7 @@ static inline const char *farnkuppel_refusal_name(uint32_t number)
  * The index is the number of the point that is flown to, from 2 to the count in every mode. Finished is set by a fix at the last point or past it
  * (lines: in three dimensions, fillets: in north and east, along the last leg; Dubins: along the last course), and then stays set. It is 1 only
  * at the last index and phase: the count and 1 in lines and fillets, the count and 5 in Dubins plans.
- * The empty state, which a refused load leaves, is all 0; a fix or a write on it is refused.
+ * The empty state, which a refused load leaves, is all 0; a fix, a write or a check for strips on it is refused.
  * Words that hold anything else are refused FARNKUPPEL_REFUSED_NO_STATE. Words that an archive of another interface filled are no state here,
  * even where they are not refused: load the plan again. */
 #define FARNKUPPEL_STATE_WORDS 263
@@ -204,6 +209,26 @@ static inline const char *farnkuppel_refusal_name(uint32_t number)
 /* To a note. */
 #define FARNKUPPEL_NOTE_WORDS 1
 #define FARNKUPPEL_NOTE_LENGTH 0       /* of the note; 0 where there is none */
+
+/* To a check for strips. */
+#define FARNKUPPEL_STRIPS_WORDS 4
+#define FARNKUPPEL_STRIPS_REFUSAL 0
+#define FARNKUPPEL_STRIPS_PLACE 1      /* the first strip at fault, from 1; 0 where none is named */
+#define FARNKUPPEL_STRIPS_RULE 2       /* the first that the strip at this place breaks; FARNKUPPEL_RULE_NONE where the place is 0 */
+#define FARNKUPPEL_STRIPS_COUNT 3      /* of strips; 0 where the check is refused */
+
+/* The rules that a strip keeps, in the order in which they are asked. */
+#define FARNKUPPEL_RULE_NONE 0
+#define FARNKUPPEL_RULE_EQUAL 1        /* its two courses are equal */
+#define FARNKUPPEL_RULE_BEARING 2      /* they equal the bearing of its leg: the course from its first point to its second in north and east,
+                                        * rounded down to a whole unit; the units' edges are a sine table's, each under 0.03 of a unit off */
+#define FARNKUPPEL_RULE_OPPOSITE 3     /* they differ by 2048, modulo 4096, from those of the strip before; not asked of the first strip */
+
+/* To a question for a strip: zeros where the plan is no strip plan, or has no such strip. */
+#define FARNKUPPEL_STRIP_WORDS 3
+#define FARNKUPPEL_STRIP_NUMBER 0
+#define FARNKUPPEL_STRIP_COURSE 1
+#define FARNKUPPEL_STRIP_LENGTH 2      /* in north and east, in whole decimetres, rounded down */
 
 /* To a fix. Read the refusal first: a refused fix has no command, and its heading is 0, which is north as well. Its index, phase and finished are
  * those of the state as it stands. */
@@ -314,6 +339,42 @@ static inline struct farnkuppel_command farnkuppel_command_of(const uint32_t *an
     return found;
 }
 
+/* The answer to a check for strips. */
+struct farnkuppel_strip_check {
+    uint32_t refusal; /* FARNKUPPEL_REFUSED_MISFIT where there are too few words, so that these never look accepted */
+    uint32_t place, rule;
+    uint32_t count; /* of strips */
+};
+
+static inline struct farnkuppel_strip_check farnkuppel_strip_check_of(const uint32_t *answer, size_t answer_length)
+{
+    struct farnkuppel_strip_check found = {FARNKUPPEL_REFUSED_MISFIT, 0, 0, 0};
+    if (answer_length >= FARNKUPPEL_STRIPS_WORDS) {
+        found.refusal = answer[FARNKUPPEL_STRIPS_REFUSAL];
+        found.place = answer[FARNKUPPEL_STRIPS_PLACE];
+        found.rule = answer[FARNKUPPEL_STRIPS_RULE];
+        found.count = answer[FARNKUPPEL_STRIPS_COUNT];
+    }
+    return found;
+}
+
+/* A strip of a strip plan; number 0 where there is none. */
+struct farnkuppel_strip_row {
+    uint32_t number, course;
+    uint32_t length; /* in north and east, in decimetres */
+};
+
+static inline struct farnkuppel_strip_row farnkuppel_strip_row_of(const uint32_t *answer, size_t answer_length)
+{
+    struct farnkuppel_strip_row found = {0, 0, 0};
+    if (answer_length >= FARNKUPPEL_STRIP_WORDS) {
+        found.number = answer[FARNKUPPEL_STRIP_NUMBER];
+        found.course = answer[FARNKUPPEL_STRIP_COURSE];
+        found.length = answer[FARNKUPPEL_STRIP_LENGTH];
+    }
+    return found;
+}
+
 /* What a state says of the whole plan. */
 struct farnkuppel_head {
     uint32_t serial;
@@ -416,6 +477,16 @@ uint32_t farnkuppel_notes(const uint8_t *file, size_t file_length, uint32_t *ans
  * no such note; neither is a refusal. */
 uint32_t farnkuppel_note(const uint8_t *file, size_t file_length, uint32_t number, uint8_t *note, size_t note_length, uint32_t *answer,
                          size_t answer_length);
+
+/* Whether the plan of a state is a strip plan: a Dubins plan with an even number of points, 1 and 2, 3 and 4 and so on of which are strips, and each
+ * strip keeps the three rules above. The strips are numbered from 1 to FARNKUPPEL_STRIPS_COUNT's word. How far the plan is flown does not matter.
+ * Reads `state`, which farnkuppel_load of libautopilot.a filled (a program that calls both links both); writes the first FARNKUPPEL_STRIPS_WORDS
+ * of `answer`. */
+uint32_t farnkuppel_strips(const int32_t *state, size_t state_length, uint32_t *answer, size_t answer_length);
+
+/* A strip of a strip plan, by its number from 1. Reads `state`; writes the first FARNKUPPEL_STRIP_WORDS of `answer`. The answer is zeros for words
+ * that hold no strip plan and for a number that no strip has; neither is a refusal, and the call returns 0. It checks the whole plan at each call. */
+uint32_t farnkuppel_strip(const int32_t *state, size_t state_length, uint32_t number, uint32_t *answer, size_t answer_length);
 
 #ifdef __cplusplus
 }

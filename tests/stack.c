@@ -39,6 +39,8 @@ __asm__(".text\n"
         PAINTED("check")
         PAINTED("note")
         PAINTED("notes")
+        PAINTED("strips")
+        PAINTED("strip")
 #else
         PAINTED("load")
         PAINTED("fix")
@@ -54,6 +56,8 @@ uint32_t painted_refusal(const uint8_t *, size_t, uint32_t);
 uint32_t painted_check(const uint8_t *, size_t, uint32_t, uint32_t *, size_t);
 uint32_t painted_notes(const uint8_t *, size_t, uint32_t *, size_t);
 uint32_t painted_note(const uint8_t *, size_t, uint32_t, uint8_t *, size_t, uint32_t *, size_t);
+uint32_t painted_strips(const int32_t *, size_t, uint32_t *, size_t);
+uint32_t painted_strip(const int32_t *, size_t, uint32_t, uint32_t *, size_t);
 
 struct plan {
     uint8_t bytes[FARNKUPPEL_FILE_BYTES];
@@ -136,9 +140,26 @@ static int read_plan(struct plan *plan, const char *name)
 
 static size_t interface_depth;
 
+/* What an archive does with the words of a state; a fix names this serial. */
+static void use_state(int32_t *state, uint32_t serial);
+
+/* Every word of a state once at each of some values. */
+static void spoil(const int32_t *state)
+{
+    static const int32_t values[] = {0, 1, 5, -1, 4096, 70000, INT32_MIN};
+    for (int place = 0; place < FARNKUPPEL_STATE_WORDS; place++) {
+        for (size_t i = 0; i < sizeof values / sizeof *values; i++) {
+            int32_t spoiled[FARNKUPPEL_STATE_WORDS];
+            memcpy(spoiled, state, sizeof spoiled);
+            spoiled[place] = values[i];
+            use_state(spoiled, (uint32_t)state[FARNKUPPEL_STATE_SERIAL]);
+        }
+    }
+}
+
 #ifdef DESK
 
-static size_t refusal_depth, check_depth, note_depth, notes_depth;
+static size_t refusal_depth, check_depth, note_depth, notes_depth, strips_depth, strip_depth;
 
 static void ask(const uint8_t *file, size_t length, uint32_t number)
 {
@@ -159,16 +180,63 @@ static void use(const uint8_t *file, size_t length)
     ask(file, length, FARNKUPPEL_NEWEST);
 }
 
+static void use_state(int32_t *state, uint32_t serial)
+{
+    uint32_t answer[FARNKUPPEL_STRIPS_WORDS];
+    (void)serial;
+    SEE(strips_depth, painted_strips(state, FARNKUPPEL_STATE_WORDS, answer, FARNKUPPEL_STRIPS_WORDS))
+    SEE(strip_depth, painted_strip(state, FARNKUPPEL_STATE_WORDS, 2, answer, FARNKUPPEL_STRIP_WORDS))
+}
+
+static int32_t number_at(const uint8_t *bytes, int count)
+{
+    uint32_t number = 0;
+    for (int i = 0; i < count; i++)
+        number = number << 8 | bytes[i];
+    return (int32_t)number;
+}
+
+/* One record of a plan that loads, with the state of those before it. */
+static void add_record(int32_t *state, uint8_t kind, const uint8_t *body)
+{
+    int32_t last = state[FARNKUPPEL_STATE_COUNT] - 1;
+    if (kind == 1) {
+        state[FARNKUPPEL_STATE_COUNT]++;
+        state[FARNKUPPEL_STATE_NORTHS + last + 1] = number_at(body, 4);
+        state[FARNKUPPEL_STATE_EASTS + last + 1] = number_at(body + 4, 4);
+        state[FARNKUPPEL_STATE_DOWNS + last + 1] = number_at(body + 8, 4);
+    } else if (kind == 2) {
+        state[FARNKUPPEL_STATE_MODE] = FARNKUPPEL_MODE_FILLETS;
+        state[FARNKUPPEL_STATE_RADIUS] = number_at(body, 2);
+    } else if (kind == 3) {
+        state[FARNKUPPEL_STATE_MODE] = FARNKUPPEL_MODE_DUBINS;
+        state[FARNKUPPEL_STATE_COURSES + last] = number_at(body, 2);
+    }
+}
+
+/* The desk's archive has no load: the state of a plan is made from its records. */
 static void use_whole(const struct plan *plan)
 {
+    int32_t state[FARNKUPPEL_STATE_WORDS] = {0};
+    uint32_t answer[FARNKUPPEL_STRIPS_WORDS];
     for (uint32_t number = 0; number <= FARNKUPPEL_NEWEST + 1; number++)
         ask(plan->bytes, plan->length, number);
+    state[FARNKUPPEL_STATE_SERIAL] = number_at(plan->bytes + 5, 4);
+    state[FARNKUPPEL_STATE_INDEX] = 2;
+    state[FARNKUPPEL_STATE_PHASE] = 1;
+    for (size_t at = 11; at < plan->length; at += 2u + plan->bytes[at + 1])
+        add_record(state, plan->bytes[at], plan->bytes + at + 2);
+    use_state(state, 0);
+    SEE(strips_depth, painted_strips(state, 0, answer, FARNKUPPEL_STRIPS_WORDS))
+    SEE(strip_depth, painted_strip(state, 0, 1, answer, FARNKUPPEL_STRIP_WORDS))
+    spoil(state);
 }
 
 static void print_depths(void)
 {
     printf("farnkuppel_refusal %zu\nfarnkuppel_check %zu\n", refusal_depth, check_depth);
     printf("farnkuppel_note %zu\nfarnkuppel_notes %zu\n", note_depth, notes_depth);
+    printf("farnkuppel_strips %zu\nfarnkuppel_strip %zu\n", strips_depth, strip_depth);
 }
 
 #else
@@ -242,21 +310,12 @@ static void fly(const int32_t *start, float metres)
     }
 }
 
-/* Every word of a state once at each of some values. */
-static void spoil(const int32_t *state)
+static void use_state(int32_t *state, uint32_t serial)
 {
-    static const int32_t values[] = {0, 1, 5, -1, 4096, 70000, INT32_MIN};
     const float here[3] = {12.5f, -3, 40};
     uint32_t answer[FARNKUPPEL_ANSWER_WORDS];
-    for (int place = 0; place < FARNKUPPEL_STATE_WORDS; place++) {
-        for (size_t i = 0; i < sizeof values / sizeof *values; i++) {
-            int32_t spoiled[FARNKUPPEL_STATE_WORDS];
-            memcpy(spoiled, state, sizeof spoiled);
-            spoiled[place] = values[i];
-            write_plan(spoiled, FARNKUPPEL_NEWEST, FARNKUPPEL_WRITTEN_BYTES);
-            fix(spoiled, (uint32_t)state[FARNKUPPEL_STATE_SERIAL], here, answer);
-        }
-    }
+    write_plan(state, FARNKUPPEL_NEWEST, FARNKUPPEL_WRITTEN_BYTES);
+    fix(state, serial, here, answer);
 }
 
 static void use_whole(const struct plan *plan)

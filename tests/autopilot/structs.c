@@ -35,7 +35,8 @@ static void each_is_about_its_own(void)
     static const struct row words[] = {
         {1, "shorter"},  {2, "WPL"},       {3, "no such version"}, {4, "serial is 0"}, {5, "area"},   {6, "record"},
         {7, "higher"},   {8, "many points"}, {9, "course"},        {10, "equal"},      {11, "corner"}, {12, "leg too short"},
-        {13, "position"}, {14, "state"},   {15, "another plan"},   {16, "room"},       {17, "Dubins"}, {100, "memory"},
+        {13, "position"}, {14, "state"},   {15, "another plan"},   {16, "room"},       {17, "Dubins"}, {18, "strip"},
+        {100, "memory"},
     };
     HOLD(ROWS == sizeof words / sizeof *words);
     for (size_t i = 0; i < ROWS; i++) {
@@ -195,6 +196,34 @@ static void commands(void)
     }
 }
 
+/* ---- strips */
+
+static void strip_checks(void)
+{
+    for (size_t length = 0; length <= 5; length++) {
+        uint32_t *words = answer_of_length(length, 202, 203);
+        struct farnkuppel_strip_check check = farnkuppel_strip_check_of(words, length);
+        if (length < 4)
+            HOLD(check.refusal == 100 && check.place == 0 && check.rule == 0 && check.count == 0);
+        else
+            HOLD(check.refusal == 200 && check.place == 201 && check.rule == 202 && check.count == 203);
+        free(words);
+    }
+}
+
+static void strip_rows(void)
+{
+    for (size_t length = 0; length <= 4; length++) {
+        uint32_t *words = answer_of_length(length, 202, 203);
+        struct farnkuppel_strip_row row = farnkuppel_strip_row_of(words, length);
+        if (length < 3)
+            HOLD(row.number == 0 && row.course == 0 && row.length == 0);
+        else
+            HOLD(row.number == 200 && row.course == 201 && row.length == 202);
+        free(words);
+    }
+}
+
 /* ---- states */
 
 static void front_words(void)
@@ -254,6 +283,8 @@ int main(void)
     refusals_in_words();
     answers();
     commands();
+    strip_checks();
+    strip_rows();
     states();
     return failures ? 1 : 0;
 }

@@ -8,36 +8,14 @@ differs, or where none was compared.
 """
 import ctypes
 import struct
-import subprocess
 import sys
-import tempfile
 from pathlib import Path
 
 from tables import LAST_LEG, rows, state_stands
+from words import STATE, library_of, numbers, words_of
 
-sys.path.insert(0, str(Path(__file__).resolve().parent.parent))
-from header import numbers  # noqa: E402
-
-STATE, *BLOCKS, COURSES = numbers("STATE_WORDS", "STATE_NORTHS", "STATE_EASTS", "STATE_DOWNS", "STATE_COURSES")
 ANSWER, WRITTEN, COMMAND = numbers("ANSWER_WORDS", "WRITE_WORDS", "COMMAND_NUMBERS")
 KINDS = dict(zip(("none", "line", "circle"), numbers("COMMAND_NONE", "COMMAND_LINE", "COMMAND_CIRCLE")))
-
-
-def words_of(row):
-    """The state's words; None where a number does not fit a word."""
-    numbers = [int(row[k]) for k in ("serial", "mode", "radius", "count", "index", "phase", "finished")]
-    words = numbers + [0] * (STATE - len(numbers))
-    for i, point in enumerate(p for p in row["points"].split(";") if p not in ("", "-")):
-        for block, part in zip(BLOCKS, point.split(",")):
-            words[block + i] = int(part)
-    for i, course in enumerate(c for c in row["courses"].split(";") if c not in ("", "-")):
-        words[COURSES + i] = int(course)
-    return [signed(w) for w in words] if all(-1 << 31 <= w < 1 << 32 for w in words) else None
-
-
-def signed(number):
-    """The word with the bits of a number."""
-    return ctypes.c_int32(number).value
 
 
 def fixed(library, row, words):
@@ -76,10 +54,7 @@ def states_agree(name, library, asked, total):
 
 def main():
     corpus, archive = Path(sys.argv[1]), sys.argv[2]
-    with tempfile.TemporaryDirectory() as folder:
-        shared = f"{folder}/autopilot.so"
-        subprocess.run(["cc", "-shared", "-o", shared, "-Wl,--whole-archive", archive, "-Wl,--no-whole-archive"], check=True)
-        library = ctypes.CDLL(shared)
+    library = library_of(archive)
     states, last_leg = rows(corpus / "states.tsv"), rows(corpus / LAST_LEG / "states.tsv")
     good = states_agree("states.tsv", library, [row for row in states if state_stands(row)], len(states))
     good &= states_agree(f"{LAST_LEG}/states.tsv", library, last_leg, len(last_leg))

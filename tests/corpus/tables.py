@@ -3,6 +3,7 @@
 A corpus folder answers for the rules as they were at first; `requests/NN` below it for a request, which decides where the two differ.
 """
 
+STRIPS = "requests/01"  # strip plans and plans that are none
 LAST_LEG = "requests/04"  # "Fly the last leg": flights and states of lines and fillets
 DUBINS = "2"  # the mode of a Dubins state; request 4 leaves those alone
 

@@ -1,8 +1,9 @@
 /* The desk's functions from C. A line for the interface. A line for each file and reader: the name, the reader, the refusal number, and the refusal
  * and place of a check. A line for a check or a count that lends another number of words than it needs: what was lent, the result, and every word
  * (- where it was not written). A line for each file whose notes are counted: the name, "has", and how many. A line for each file and note: the
- * name, the note's number, the result, the answer and the lent buffer, which held a dot at every byte.
- * Every file is written out below; what is expected is read off the rules: docs/RULES.md, sections 4, 5 and 7. */
+ * name, the note's number, the result, the answer and the lent buffer, which held a dot at every byte. A line for each state whose strips are
+ * checked, and for each strip that is asked for by its number: the result and every word; and the same where other lengths are lent.
+ * Every file and state is written out below; what is expected is read off the rules: docs/RULES.md, sections 4, 5, 7 and 20. */
 #include "../plan.h"
 #include "farnkuppel.h"
 
@@ -363,6 +364,270 @@ static void later_notes(void)
     count("later");
 }
 
+/* ---- strips, of a state in words */
+
+static int32_t state[263];
+
+static void place(int number, int32_t north, int32_t east, int32_t course)
+{
+    state[FARNKUPPEL_STATE_NORTHS + number - 1] = north;
+    state[FARNKUPPEL_STATE_EASTS + number - 1] = east;
+    state[FARNKUPPEL_STATE_COURSES + number - 1] = course;
+}
+
+/* The start of a Dubins plan whose points are yet to be placed. */
+static void start(int32_t radius, int32_t count)
+{
+    memset(state, 0, sizeof state);
+    state[FARNKUPPEL_STATE_SERIAL] = 7;
+    state[FARNKUPPEL_STATE_MODE] = 2;
+    state[FARNKUPPEL_STATE_RADIUS] = radius;
+    state[FARNKUPPEL_STATE_COUNT] = count;
+    state[FARNKUPPEL_STATE_INDEX] = 2;
+    state[FARNKUPPEL_STATE_PHASE] = 1;
+}
+
+/* Strips to the north-east, back, and to the north-east: their legs are (200, 200), (-400, -400) and (300, 300). */
+static void three_strips(void)
+{
+    start(50, 6);
+    place(1, 0, 0, 512);
+    place(2, 200, 200, 512);
+    place(3, 50, 350, 2560);
+    place(4, -350, -50, 2560);
+    place(5, -500, 100, 512);
+    place(6, -200, 400, 512);
+}
+
+/* The same from the last point to the first. */
+static void three_strips_back(void)
+{
+    start(50, 6);
+    place(1, -200, 400, 2560);
+    place(2, -500, 100, 2560);
+    place(3, -350, -50, 512);
+    place(4, 50, 350, 512);
+    place(5, 200, 200, 2560);
+    place(6, 0, 0, 2560);
+}
+
+/* As many strips as a plan has room for, to the north and back. The last leans by 1 of 1000, and its bearing is 2048 all the same. */
+static void most_strips(void)
+{
+    start(100, 64);
+    for (int i = 0; i < 32; i++) {
+        int north = i % 2 == 0;
+        place(2 * i + 1, north ? 0 : 1000, 400 * i, north ? 0 : 2048);
+        place(2 * i + 2, north ? 1000 : 0, 400 * i, north ? 0 : 2048);
+    }
+    place(64, 0, 400 * 31 - 1, 2048);
+}
+
+/* The points behind so many go. */
+static void cut_to(int count)
+{
+    state[FARNKUPPEL_STATE_COUNT] = count;
+    for (int number = count + 1; number <= 64; number++)
+        place(number, 0, 0, 0);
+}
+
+static void set_courses(int strip, int32_t first, int32_t second)
+{
+    state[FARNKUPPEL_STATE_COURSES + 2 * strip - 2] = first;
+    state[FARNKUPPEL_STATE_COURSES + 2 * strip - 1] = second;
+}
+
+/* The front of the state, in memory of its own. */
+static int32_t *copy_of_state(size_t lent)
+{
+    int32_t *copy = exactly(lent * sizeof *copy);
+    if (lent)
+        memcpy(copy, state, lent * sizeof *copy);
+    return copy;
+}
+
+static void strips_into(const char *name, size_t lent, size_t room)
+{
+    int32_t *copy = copy_of_state(lent);
+    uint32_t *answer = lent_words(room);
+    printf("%s strips %" PRIu32, name, farnkuppel_strips(copy, lent, answer, room));
+    print_words(answer, room);
+    free(copy);
+}
+
+static void strip_into(const char *name, uint32_t number, size_t lent, size_t room)
+{
+    int32_t *copy = copy_of_state(lent);
+    uint32_t *answer = lent_words(room);
+    printf("%s strip %" PRIu32 " %" PRIu32, name, number, farnkuppel_strip(copy, lent, number, answer, room));
+    print_words(answer, room);
+    free(copy);
+}
+
+static void ask_strips(const char *name)
+{
+    strips_into(name, 263, 4);
+}
+
+static void ask_strip(const char *name, uint32_t number)
+{
+    strip_into(name, number, 263, 3);
+}
+
+static void strip_plans(void)
+{
+    three_strips();
+    ask_strips("three-strips");
+    for (uint32_t number = 0; number <= 4; number++)
+        ask_strip("three-strips", number);
+    ask_strip("three-strips", 257);
+    ask_strip("three-strips", 65537);
+    ask_strip("three-strips", UINT32_MAX);
+    state[FARNKUPPEL_STATE_INDEX] = 6;
+    state[FARNKUPPEL_STATE_PHASE] = 5;
+    state[FARNKUPPEL_STATE_FINISHED] = 1;
+    ask_strips("finished");
+    ask_strip("finished", 2);
+    three_strips_back();
+    ask_strips("back");
+    for (uint32_t number = 1; number <= 3; number++)
+        ask_strip("back", number);
+    three_strips();
+    cut_to(4);
+    ask_strips("two-strips");
+    ask_strip("two-strips", 2);
+    ask_strip("two-strips", 3);
+    most_strips();
+    ask_strips("most-strips");
+    ask_strip("most-strips", 31);
+    ask_strip("most-strips", 32);
+    ask_strip("most-strips", 33);
+}
+
+/* Rule 1, also where a later rule is broken by the same strip or the same rule by a later one. */
+static void courses_that_differ(void)
+{
+    three_strips();
+    set_courses(1, 512, 513);
+    ask_strips("first-differs");
+    set_courses(2, 2560, 0);
+    ask_strips("two-differ");
+    three_strips();
+    set_courses(1, 0, 512);
+    ask_strips("start-differs");
+    three_strips();
+    set_courses(2, 512, 2560);
+    ask_strips("middle-differs");
+    three_strips();
+    set_courses(3, 512, 511);
+    ask_strips("last-differs");
+    ask_strip("last-differs", 1);
+}
+
+/* Rule 2: a unit off by the courses, or by the leg, whose strip is then still opposite to the one before. (1000, 1001) is on the right of the
+ * direction 512, within a unit of it, (1001, 1000) on its left. */
+static void courses_off_the_leg(void)
+{
+    three_strips();
+    set_courses(1, 511, 511);
+    ask_strips("first-below");
+    three_strips();
+    set_courses(2, 2561, 2561);
+    ask_strips("middle-above");
+    three_strips();
+    set_courses(3, 513, 513);
+    ask_strips("last-above");
+    three_strips();
+    place(6, -500 + 1000, 100 + 1001, 512);
+    ask_strips("leg-on-the-right");
+    ask_strip("leg-on-the-right", 3);
+    place(6, -500 + 1001, 100 + 1000, 512);
+    ask_strips("leg-on-the-left");
+    three_strips();
+    place(4, 50 - 1001, 350 - 1000, 2560);
+    ask_strips("middle-leg-on-the-left");
+}
+
+/* Rule 3: strips that keep the other two. */
+static void courses_not_opposite(void)
+{
+    three_strips();
+    place(3, 50, 350, 512);
+    place(4, 450, 750, 512);
+    ask_strips("second-goes-on");
+    three_strips();
+    place(6, -500, 600, 1024);
+    set_courses(3, 1024, 1024);
+    ask_strips("last-across");
+    place(6, -500 + 1001, 100 + 1000, 511);
+    set_courses(3, 511, 511);
+    ask_strips("opposite-by-2047");
+}
+
+/* Plans that have no strips to look at, whatever their courses are. */
+static void no_strips(void)
+{
+    three_strips();
+    cut_to(5);
+    ask_strips("odd");
+    set_courses(1, 0, 1);
+    ask_strips("odd-and-first-differs");
+    three_strips();
+    for (int strip = 1; strip <= 3; strip++)
+        set_courses(strip, 0, 0);
+    state[FARNKUPPEL_STATE_MODE] = 1;
+    ask_strips("fillets");
+    ask_strip("fillets", 1);
+    state[FARNKUPPEL_STATE_MODE] = 0;
+    state[FARNKUPPEL_STATE_RADIUS] = 0;
+    ask_strips("lines");
+    ask_strip("lines", 1);
+}
+
+/* Words that hold no state, also where there would be no strip plan. */
+static void no_state(void)
+{
+    memset(state, 0, sizeof state);
+    ask_strips("no-plan");
+    ask_strip("no-plan", 1);
+    three_strips();
+    state[FARNKUPPEL_STATE_INDEX] = 7;
+    ask_strips("index-7");
+    ask_strip("index-7", 1);
+    three_strips();
+    set_courses(3, 512, 4608);
+    ask_strips("course-4608");
+    three_strips();
+    place(2, 100, 100, 513);
+    ask_strips("ends-141-apart");
+    three_strips();
+    state[FARNKUPPEL_STATE_COUNT] = 5;
+    ask_strips("odd-with-a-point-behind");
+    three_strips();
+    state[FARNKUPPEL_STATE_MODE] = 0;
+    ask_strips("lines-with-a-radius");
+    three_strips();
+    state[FARNKUPPEL_STATE_SERIAL] = 0;
+    ask_strips("serial-0");
+}
+
+/* Slices that are too short, or longer than they have to be. */
+static void strip_lengths(void)
+{
+    three_strips();
+    for (size_t room = 0; room <= 5; room++)
+        strips_into("into", 263, room);
+    for (size_t room = 0; room <= 4; room++)
+        strip_into("into", 2, 263, room);
+    strips_into("of-262", 262, 4);
+    strip_into("of-262", 2, 262, 3);
+    strips_into("of-none", 0, 4);
+    strip_into("of-none", 2, 0, 3);
+    memset(state, 0, sizeof state);
+    strips_into("no-plan-into", 263, 3);
+    strip_into("no-plan-into", 1, 263, 2);
+}
+
 static void interface(void)
 {
     printf("interface %" PRIu32 "\n", farnkuppel_interface());
@@ -380,5 +645,12 @@ int main(void)
     many_notes();
     no_notes();
     later_notes();
+    strip_plans();
+    courses_that_differ();
+    courses_off_the_leg();
+    courses_not_opposite();
+    no_strips();
+    no_state();
+    strip_lengths();
     return 0;
 }

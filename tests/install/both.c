@@ -1,8 +1,18 @@
 /* Both archives in one program, in C99 and in C++. Of each plan that it is given: the refusal numbers for readers 0 to 4, which the two have to agree
- * on. */
+ * on, and how many strips it has, which the desk's finds in the autopilot's state. */
 #include "read.h"
 
 #include <inttypes.h>
+
+/* How many strips the plan has, 0 where it is no strip plan. */
+static uint32_t strips(size_t length)
+{
+    int32_t state[FARNKUPPEL_STATE_WORDS];
+    uint32_t loaded[FARNKUPPEL_LOAD_WORDS], answer[FARNKUPPEL_STRIPS_WORDS];
+    farnkuppel_load(file, length, FARNKUPPEL_NEWEST, state, FARNKUPPEL_STATE_WORDS, loaded, FARNKUPPEL_LOAD_WORDS);
+    farnkuppel_strips(state, FARNKUPPEL_STATE_WORDS, answer, FARNKUPPEL_STRIPS_WORDS);
+    return farnkuppel_strip_check_of(answer, FARNKUPPEL_STRIPS_WORDS).count;
+}
 
 int main(int count, char **words)
 {
@@ -16,7 +26,7 @@ int main(int count, char **words)
                 return 1;
             printf(reader ? " %" PRIu32 : "%" PRIu32, refusal);
         }
-        printf("\n");
+        printf(" strips %" PRIu32 "\n", strips(length));
     }
     return farnkuppel_interface() == FARNKUPPEL_INTERFACE ? 0 : 1;
 }
