@@ -1207,8 +1207,8 @@ fn near_edge(a: u64, b: u64) -> usize
     requires { ⌜ (a < 2 ^ 48) × (b < 2 ^ 48) ⌝ }
     ensures { λ r. ⌜ (1 ≤ r) × (r ≤ 1022) ⌝ }
 {
-    let x = (a as i64) as f64;
-    let y = (b as i64) as f64;
+    let x = integers::float_of(a);
+    let y = integers::float_of(b);
     let arc = if b <= a {
         near_arc(y, x) + 0.03125
     } else {

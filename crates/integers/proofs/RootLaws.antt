@@ -1,7 +1,7 @@
 -- rootOf n is the floor of the square root of n, at every n, and nothing else is. Assumes nothing.
 use mathlib.Core.Path.{_≡_, refl, sym, subst}
 use mathlib.Core.Bool.{Bool, true, false}
-use Prim.Native.Nat.{ℕ, zero, suc, _+_, _*_, _/_, _≤_, _<_}
+use Prim.Native.Nat.{ℕ, zero, suc, _+_, _-_, _*_, _/_, _≤_, _<_}
 use native.Mathlib.Nat.{mul-le-mul, lt-of-not-le, not-le-of-lt, le-antisymm, lt-of-le-of-lt}
 use native.Mathlib.Omega.{arith}
 use lib.Dec.{leb}
@@ -39,6 +39,11 @@ root-only n r p = le-antisymm (at-most n r (rootOf n) p (root-is n)) (at-most n 
 -- what gives the root, and what the root is
 pub is-root : (n r : ℕ) → r ≡ rootOf n → (r ≡ rootOf n) × IsRoot n r
 is-root n r e = (e, subst (IsRoot n) (sym e) (root-is n))
+
+-- the root is one less than a number whose square is a little above
+pub one-less : (n g : ℕ) → n < g * g → g * g - n < 2 * g → IsRoot n (g - 1)
+one-less n zero h k = absurd (omega arith)
+one-less n (suc m) h k = let e : suc m - 1 ≡ m = omega arith in rw e (record { low = omega arith; high = omega arith })
 
 -- the root of what lies below a square
 pub root-lt : (n b : ℕ) → n < b * b → rootOf n < b

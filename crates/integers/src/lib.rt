@@ -3,7 +3,7 @@ ghost use mathlib.Core.Path.{_≡_};
 ghost use Prim.Native.Nat.{_+_, _*_, _<_, _^_};
 ghost use lib.Dec.{leb};
 ghost use lib.IntN.{natAbs};
-ghost use Rattle.integers.specs.Floats.{bitsFrom};
+ghost use Rattle.integers.specs.Floats.{bitsFrom, floatFrom};
 ghost use Rattle.integers.specs.Root.{IsRoot, rootOf};
 ghost use Rattle.integers.specs.Round.{nearestOf, HalvesAway};
 ghost use Rattle.integers.specs.TwosComplement.{signedOf, unsignedOf};
@@ -71,18 +71,26 @@ pub fn bits_of(x: f64) -> u64
     0
 }
 
-// Near the square root: half the exponent, then three of Newton's steps. A guess, that `root` tests; only its range is promised. 2^52 - 1/2 is
-// added to have the whole number in the last bits.
+// A whole number as a float: the last bits of a float from 2^52 on, less 2^52. A conversion would wait for what its register was made of before, in a
+// loop for the round before.
+pub fn float_of(n: u64) -> f64
+    requires { ⌜ n < 2 ^ 52 ⌝ }
+    ensures { λ r. ⌜ r ≡ floatFrom n ⌝ }
+{
+    f64::from_bits(n + 4841369599423283200) - 4503599627370496.0
+}
+
+// Near the square root: half the exponent, then two of Newton's steps, which end at it or above. A guess, that `root` tests; only its range is
+// promised. 2^52 - 1/2 is added to have the whole number in the last bits.
 fn near_root(n: u64) -> u64
-    requires { ⌜ n < 2 ^ 53 ⌝ }
+    requires { ⌜ n < 2 ^ 52 ⌝ }
     ensures { λ r. ⌜ r < 4294967296 ⌝ }
 {
-    let x = (n as i64) as f64;
-    let a = f64::from_bits(bits_of(x) / 2 % 4611686018427387904 + 2303591209400008704);
+    let x = float_of(n);
+    let a = f64::from_bits(bits_of(x) / 2 % 4611686018427387904 + 2303489773699701531);
     let b = 0.5 * (a + x / a);
     let c = 0.5 * (b + x / b);
-    let d = 0.5 * (c + x / c);
-    bits_of(d + 4503599627370495.5) % 4294967296
+    bits_of(c + 4503599627370495.5) % 4294967296
 }
 
 // The floor of the square root, by halving the range that holds it.
@@ -102,17 +110,21 @@ fn root_by_halves(n: u64) -> u64
     low
 }
 
-// The floor of the square root. Below 2^53 a number is a float exactly, and its root is guessed.
+// The floor of the square root. Below 2^52 a number is a float exactly, and its root is guessed: it is the guess, or one less.
 pub fn root(n: u64) -> u64
     ensures { λ r. ⌜ r ≡ rootOf n ⌝ }
     ensures { λ r. ⌜ IsRoot n r ⌝ }
 {
-    if n < 9007199254740992 {
+    if n < 4503599627370496 {
         let guess = near_root(n);
         let square = guess * guess;
         if square <= n {
             if n - square <= 2 * guess {
                 return guess;
+            }
+        } else {
+            if square - n < 2 * guess {
+                return guess - 1;
             }
         }
     }

@@ -1,21 +1,14 @@
 -- `near_edge` gives an edge from 1 to 1,022 and cannot fault. Assumes nothing.
 use native.Mathlib.Omega.{arith}
 use borrow.Author.Needs.{needs}
-use Rattle.integers.proofs.FloatLaws.{whole-float}
 use Rattle.course.proofs.near_edge.Statement.{statement}
 use Rattle.course.proofs.near_edge.Tie as tie
 
-cast-x : tie.Need-cast-x
-cast-x c = search needs
+float-of-requires : tie.Need-float-of-requires
+float-of-requires c κs = omega (arith, c .pre .0)
 
-int-to-float-x : tie.Need-int-to-float-x
-int-to-float-x c = whole-float (c .before .args .a) (omega arith)
-
-cast-y : tie.Need-cast-y
-cast-y c = search needs
-
-int-to-float-y : tie.Need-int-to-float-y
-int-to-float-y c = whole-float (c .before .before .args .b) (omega arith)
+float-of-requires-2 : tie.Need-float-of-requires-2
+float-of-requires-2 c κs = omega (arith, c .before .pre .1)
 
 near-arc-requires : tie.Need-near-arc-requires
 near-arc-requires c κs = search needs
@@ -39,10 +32,8 @@ pub near-edge-spec : {M : Type 1} → statement M
 near-edge-spec =
     tie.close
     (tie.spec
-    cast-x
-    int-to-float-x
-    cast-y
-    int-to-float-y
+    float-of-requires
+    float-of-requires-2
     near-arc-requires
     near-arc-requires-2
     bits-of-requires

@@ -1,16 +1,12 @@
 -- `near_root` gives a number below 2^32 and cannot fault: the pattern that its first float is made from is no NaN's. Assumes nothing.
-use Prim.Native.Nat.{_≤_}
 use native.Mathlib.Omega.{arith}
 use borrow.Author.Needs.{needs}
-use Rattle.integers.proofs.FloatLaws.{plain-bits, whole-float}
+use Rattle.integers.proofs.FloatLaws.{plain-bits}
 use Rattle.integers.proofs.near_root.Statement.{statement}
 use Rattle.integers.proofs.near_root.Tie as tie
 
-cast-x : tie.Need-cast-x
-cast-x c = omega arith
-
-int-to-float-x : tie.Need-int-to-float-x
-int-to-float-x c = whole-float (c .before .args .n) (omega arith)
+float-of-requires : tie.Need-float-of-requires
+float-of-requires c κs = search needs
 
 bits-of-requires : tie.Need-bits-of-requires
 bits-of-requires c κs = search needs
@@ -31,8 +27,7 @@ pub near-root-spec : {M : Type 1} → statement M
 near-root-spec =
     tie.close
     (tie.spec
-    cast-x
-    int-to-float-x
+    float-of-requires
     bits-of-requires
     add-a
     float-from-bits-a
