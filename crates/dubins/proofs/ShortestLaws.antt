@@ -2,7 +2,7 @@
 -- other path is so. No case is shorter than its straight part. Assumes nothing.
 use mathlib.Core.Path.{_≡_, refl, sym, ap, _∙_, subst}
 use mathlib.Core.Bool.{Bool, true, false, true≢false, _||_}
-use Prim.Native.Nat.{ℕ, suc, _≤_, _<_}
+use Prim.Native.Nat.{ℕ, suc, _+_, _-_, _≤_, _<_}
 use native.Mathlib.Omega.{arith}
 use native.Mathlib.Decide.{decLt}
 use lib.Dec.{leb}
@@ -15,7 +15,8 @@ use Rattle.dubins.specs.declared.Path.{Path}
 use Rattle.dubins.specs.declared.Found.{Found}
 use Rattle.dubins.specs.declared.Found.the-variants.{Shortest, Missing}
 use Rattle.dubins.specs.Cases.{circlesOf, caseExists, straightOf, straightCourse, caseLength, pathOf}
-use Rattle.dubins.specs.Choice.{casePath, shorterOf, shortestOf, hasPathOf, Wins, IsShortest, Chosen}
+use Rattle.dubins.specs.Choice.{casePath, shorterOf, shortestOf, foundLength, hasPathOf, Wins, IsShortest, Chosen}
+use Rattle.dubins.specs.Ways.{noLength, Measures, shortestTo}
 
 -- ---- of two paths
 module _ (p q : Path) where
@@ -31,6 +32,50 @@ pub only-later : (b : Found) → shorterOf Missing b ≡ b
 unfolding shorterOf
 only-later Missing = refl
 only-later (Shortest q) = refl
+
+-- ---- the cases one after another
+pub shortest-next : (ends : Ends) (case : ℕ) → 1 ≤ case → shorterOf (shortestTo ends (case - 1)) (casePath ends case) ≡ shortestTo ends (case + 1 - 1)
+unfolding shortestTo
+shortest-next ends case l =
+    let e : case ≡ suc (case - 1) = omega arith in
+    let k : case + 1 - 1 ≡ suc (case - 1) = omega arith in
+    rw k (ap (λ (j : ℕ). shorterOf (shortestTo ends (case - 1)) (casePath ends j)) e)
+
+pub shortest-all : (ends : Ends) → shortestTo ends 4 ≡ shortestOf ends
+unfolding shortestTo shortestOf
+shortest-all ends = ap (λ (f : Found). shorterOf (shorterOf (shorterOf f (casePath ends 2)) (casePath ends 3)) (casePath ends 4)) (only-later (casePath ends 1))
+
+-- ---- lengths alone: a case that does not exist, one of which as much is known as is no shorter, and one that is shorter
+module _ (f : Found) (best : ℕ) (k : Measures f best) (c : Found) where
+  pub measures-absent : c ≡ Missing → Measures (shorterOf f c) best
+  unfolding shorterOf
+  measures-absent h = subst (λ (x : Found). Measures (shorterOf f x) best) (sym h) k
+
+  module _ (p : Path) (there : c ≡ Shortest p) where
+    pub measures-kept : (m : ℕ) → m < noLength → best ≤ m → m ≤ p .length → Measures (shorterOf f c) best
+    measures-kept m b h l = subst (λ (x : Found). Measures (shorterOf f x) best) (sym there) (subst (λ (x : Found). Measures x best) (sym (keeps f k m b h l)) k)
+      where
+        keeps : (g : Found) → Measures g best → (m : ℕ) → m < noLength → best ≤ m → m ≤ p .length → shorterOf g (Shortest p) ≡ g
+        keeps Missing e m b h l = absurd (omega (arith, e))
+        keeps (Shortest q) e m b h l = earlier-wins q p (omega (arith, e .0))
+
+    pub measures-taken : (length : ℕ) → length ≡ p .length → length < noLength → length < best → Measures (shorterOf f c) length
+    measures-taken length e b h = subst (λ (x : Found). Measures (shorterOf f x) length) (sym there) (subst (λ (x : Found). Measures x length) (sym (takes f k)) (e, b))
+      where
+        takes : (g : Found) → Measures g best → shorterOf g (Shortest p) ≡ Shortest p
+        takes Missing i = only-later (Shortest p)
+        takes (Shortest q) i = later-wins q p (omega (arith, i .0, e))
+
+-- at the end
+pub measures-found : (f : Found) (best : ℕ) → Measures f best → best < noLength → best ≡ foundLength f
+unfolding foundLength
+measures-found Missing best k h = absurd (omega (arith, k))
+measures-found (Shortest p) best k h = k .0
+
+pub measures-none : (f : Found) (best : ℕ) → Measures f best → noLength ≤ best → 0 ≡ foundLength f
+unfolding foundLength
+measures-none Missing best k h = refl
+measures-none (Shortest p) best k h = absurd (omega (arith, k .1))
 
 -- ---- one case, from its parts
 module _ (ends : Ends) (case : ℕ) where

@@ -1,4 +1,4 @@
--- Clauses 7.12, 7.17, 12.2 to 12.4, 12.7: the shortest of a leg's cases, and the tests of refusals 12 and 17. Assumes nothing.
+-- Clauses 7.12, 7.17, 12.2 to 12.4, 12.7, 21.4: the shortest of a leg's cases, and the tests of refusals 12 and 17. Assumes nothing.
 use mathlib.Core.Path.{_≡_}
 use mathlib.Core.Logic.{_↔_}
 use mathlib.Core.Bool.{Bool, true, false, _||_}
@@ -31,6 +31,11 @@ shorterOf (Shortest earlier) (Shortest later) = choose (leb (earlier .length) (l
 
 unfoldable pub shortestOf : Ends → Found
 shortestOf ends = shorterOf (shorterOf (shorterOf (casePath ends 1) (casePath ends 2)) (casePath ends 3)) (casePath ends 4)
+
+-- 21.4: its length; a leg of a sound plan has one
+unfoldable pub foundLength : Found → ℕ
+foundLength (Shortest path) = path .length
+foundLength Missing = 0
 
 -- 7.17 refuses a leg that has none
 unfoldable pub hasPathOf : Ends → Bool

@@ -2,10 +2,11 @@
 -- no contract of a public function cites it. Assumes nothing.
 use mathlib.Core.Path.{_≡_}
 use mathlib.Core.Bool.{true, false}
-use Prim.Native.Nat.{ℕ, _≤_, _<_}
+use Prim.Native.Nat.{ℕ, zero, suc, _≤_, _<_}
 use Rattle.course.specs.Vectors.{Near}
 use Rattle.plane.specs.declared.Point.{Point}
 use Rattle.dubins.specs.declared.Centres.{Centres}
+use Rattle.dubins.specs.declared.Ends.{Ends}
 use Rattle.dubins.specs.declared.Path.{Path}
 use Rattle.dubins.specs.declared.Way.{Way}
 use Rattle.dubins.specs.declared.Tried.{Tried}
@@ -13,6 +14,7 @@ use Rattle.dubins.specs.declared.Tried.the-variants.{Exists, Absent}
 use Rattle.dubins.specs.declared.Found.{Found}
 use Rattle.dubins.specs.declared.Found.the-variants.{Shortest, Missing}
 use Rattle.dubins.specs.Cases.{startsRight, endsRight, centreOf, touchOf}
+use Rattle.dubins.specs.Choice.{casePath, shorterOf}
 
 -- both centres at a point with a course, each a radius away
 pub record AreCentres (p : Point) (R χ : ℕ) (c : Centres) : Type 0 where
@@ -50,3 +52,16 @@ pathAlong R w =
 unfoldable pub foundBy : ℕ → Tried → Found
 foundBy R (Exists w) = Shortest (pathAlong R w)
 foundBy R Absent = Missing
+
+-- a number that is more than any length, and what a number says of what was found: its length, or that number
+abbrev pub noLength : ℕ
+noLength = 2000000
+
+abbrev pub Measures : Found → ℕ → Type 0
+Measures (Shortest path) n = (n ≡ path .length) × (n < noLength)
+Measures Missing n = n ≡ noLength
+
+-- the shortest of the first k cases
+unfoldable pub shortestTo : Ends → ℕ → Found
+shortestTo ends zero = Missing
+shortestTo ends (suc k) = shorterOf (shortestTo ends k) (casePath ends (suc k))

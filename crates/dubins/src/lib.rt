@@ -9,12 +9,13 @@ ghost use Rattle.plane.specs.declared.Point.{Point};
 ghost use Rattle.plane.specs.Area.{InArea};
 ghost use Rattle.plane.specs.Level.{minus};
 ghost use Rattle.dubins.specs.declared.Path.{Path};
+ghost use Rattle.dubins.specs.declared.Found.{Found};
 ghost use Rattle.dubins.specs.declared.Found.the-variants.{Shortest};
 ghost use Rattle.dubins.specs.Limits.{IsEnds, IsCircles, IsPath, IsFound};
-ghost use Rattle.dubins.specs.Cases.{startsRight, endsRight, sameSide, centreOf, circlesOf, tangentExists, straightOf, innerTangent, straightCourse, arcTurn, touchOf, pathOf, caseExists};
-ghost use Rattle.dubins.specs.Choice.{casePath, shorterOf, shortestOf, hasPathOf, farApart, Chosen, Existence};
+ghost use Rattle.dubins.specs.Cases.{startsRight, endsRight, sameSide, centreOf, circlesOf, tangentExists, straightOf, innerTangent, straightCourse, arcTurn, caseLength, touchOf, pathOf, caseExists};
+ghost use Rattle.dubins.specs.Choice.{casePath, shorterOf, shortestOf, foundLength, hasPathOf, farApart, Chosen, Existence};
 ghost use Rattle.dubins.specs.HandLegs.{HandLegs};
-ghost use Rattle.dubins.specs.Ways.{AreCentres, IsWay, IsTried, pathAlong, foundBy};
+ghost use Rattle.dubins.specs.Ways.{AreCentres, IsWay, IsTried, pathAlong, foundBy, Measures};
 
 // The ends of a leg: its points, the courses to leave and to arrive on, the radius of the circles.
 pub struct Ends {
@@ -70,6 +71,12 @@ pub enum Found {
     Shortest(Path),
     Missing,
 }
+
+// The cases are 1 to this one.
+const LAST_CASE: u8 = 4;
+
+// More than a leg is long by any case.
+const NO_LENGTH: u64 = 2000000;
 
 // Whether the start circle of a case is a right one: RSR and RSL.
 pub fn starts_right(case: u8) -> bool
@@ -225,6 +232,16 @@ fn touch(centre: Vector, radius: u64, course: usize, right: bool) -> Vector
     plane::sum(centre, across)
 }
 
+// The length of a case with its two arcs, from the length and the course of its straight part.
+fn case_length(ends: Ends, case: u8, s: u64, course: usize) -> u64
+    requires { ⌜ IsEnds ends × ((s ≤ 1442497) × (course < 4096)) ⌝ }
+    ensures { λ r. ⌜ (r ≡ caseLength ends case s course) × (r ≤ 1568130) ⌝ }
+{
+    let start_turn = turn(ends.leave, course, starts_right(case));
+    let end_turn = turn(course, ends.arrive, ends_right(case));
+    s + plane::arc(ends.radius, start_turn + end_turn)
+}
+
 // The way of a case, from its circles and the length and the course of its straight part.
 fn way_of(ends: Ends, case: u8, circles: Circles, s: u64, course: usize) -> Way
     requires { ⌜ (IsEnds ends × ((1 ≤ case) × (case ≤ 4))) × (IsCircles circles × ((s ≤ 1442497) × (course < 4096))) ⌝ }
@@ -232,9 +249,7 @@ fn way_of(ends: Ends, case: u8, circles: Circles, s: u64, course: usize) -> Way
 {
     let start = circles.start;
     let end = circles.end;
-    let start_turn = turn(ends.leave, course, starts_right(case));
-    let end_turn = turn(course, ends.arrive, ends_right(case));
-    let length = s + plane::arc(ends.radius, start_turn + end_turn);
+    let length = case_length(ends, case, s, course);
     Way {
         case,
         course,
@@ -350,6 +365,47 @@ pub fn shortest_path(ends: Ends) -> Found
     let lsr = better(rsl, ends, from, to, 3);
     let lsl = better(lsr, ends, from, to, 4);
     found_by(lsl, ends.radius)
+}
+
+// The lesser of a length and that of a case, from both centres at each end; a case that does not exist has none.
+fn better_length(best: u64, ends: Ends, from: Centres, to: Centres, case: u8) -> u64
+    requires { ⌜ IsEnds ends × ((1 ≤ case) × (case ≤ 4)) ⌝ }
+    requires { ⌜ AreCentres (ends .start) (ends .radius) (ends .leave) from ⌝ }
+    requires { ⌜ AreCentres (ends .end) (ends .radius) (ends .arrive) to ⌝ }
+    ensures { λ r. ⌜ ((f : Found) → Measures f best → Measures (shorterOf f (casePath ends case)) r) ⌝ }
+{
+    let start = centre_on(from, starts_right(case));
+    let end = centre_on(to, ends_right(case));
+    let circles = circles_at(start, end);
+    let v = circles.v;
+    if !tangent_exists(v, ends.radius, case) {
+        return best;
+    }
+    let s = straight(v, ends.radius, case);
+    if best <= s {
+        return best;
+    }
+    let course = straight_course(v, s, ends.radius, case);
+    let length = case_length(ends, case, s, course);
+    if length < best { length } else { best }
+}
+
+// The length of the shortest leg by any case, 0 where none exists. Only lengths are carried from case to case, no way.
+pub fn shortest_length(ends: Ends) -> u64
+    requires { ⌜ IsEnds ends ⌝ }
+    ensures { λ r. ⌜ (r ≡ foundLength (shortestOf ends)) × (r ≤ 2000000) ⌝ }
+{
+    let start = ends.start;
+    let end = ends.end;
+    let from = both_centres(start, ends.radius, ends.leave);
+    let to = both_centres(end, ends.radius, ends.arrive);
+    let mut best = NO_LENGTH;
+    let mut case: u8 = 1;
+    while case <= LAST_CASE {
+        best = better_length(best, ends, from, to, case);
+        case += 1;
+    }
+    if best < NO_LENGTH { best } else { 0 }
 }
 
 // Whether any case exists, with no bearing and no root worked out.

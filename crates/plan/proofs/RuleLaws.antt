@@ -3,7 +3,7 @@ use mathlib.Core.Path.{_≡_, refl, sym, ap, _∙_}
 use mathlib.Core.Bool.{Bool, true, false}
 use Prim.Native.Nat.{ℕ, _+_, _-_, _≤_, _<_}
 use native.Mathlib.Omega.{arith}
-use lib.Dec.{eqb, ltb}
+use lib.Dec.{eqb, leb, ltb}
 use borrow.Author.Tests.{eqb-false, ltb-false, leb-true, le-leb, lt-leb}
 use Rattle.conditions.specs.Choose.{choose}
 use Rattle.conditions.proofs.Bools.{clash}
@@ -14,12 +14,13 @@ use Rattle.refusals.specs.Sweep.{Done, done}
 use Rattle.refusals.proofs.OutcomeLaws.{Proper, check-true, check-false, check-first, check-rest, then-good, then-refused, good-first, proper-check, proper-then}
 use Rattle.refusals.proofs.SweepLaws.{sweep-means, sweep-zeros, sweep-done, good-is, proper-sweep}
 use Rattle.plane.specs.declared.Point.{Point}
+use Rattle.plane.specs.Level.{levelLegOf, vectorLength}
 use Rattle.fillets.specs.Corners.{cornerTurn}
 use Rattle.dubins.specs.Choice.{hasPathOf, farApart}
 use Rattle.plan.specs.declared.Mode.{Mode}
 use Rattle.plan.specs.declared.Mode.the-variants.{Lines, Fillets, Dubins}
 use Rattle.plan.specs.Limits.{fewestPoints, mostPoints, mostTurn}
-use Rattle.plan.specs.Rules.{coursesFit, cornerNumber, endsNumber, legNumber, endsAt, pairAt, cornerAt, pairsOf, cornersOf, legsOf, geometryOn, rulesOn}
+use Rattle.plan.specs.Rules.{coursesFit, cornerNumber, tangentAt, tangentNumber, endsNumber, legNumber, endsAt, pairAt, cornerAt, pairsOf, cornersOf, legsOf, geometryOn, rulesOn}
 
 -- ---- corners and legs that pass
 turn-low : (t : ℕ) (b : Bool) → ltb mostTurn t ≡ b → choose {A = ℕ} b 11 0 ≡ 0 → t ≤ mostTurn
@@ -46,6 +47,18 @@ unfolding legsOf legNumber endsNumber
 leg-paths R n at course h i l m =
     path-has (farApart (at (i - 1)) (at i) R) (hasPathOf (endsAt R at course (i - 1) i))
     (sweep-means (legNumber Dubins R n at course) (n - 1) 1 h i l (omega arith))
+
+length-fits : (t l : ℕ) (b : Bool) → leb t l ≡ b → choose {A = ℕ} b 0 12 ≡ 0 → t ≤ l
+unfolding choose
+length-fits t l true e h = leb-true t l e
+length-fits t l false e h = absurd (omega arith)
+
+pub leg-lengths : (R n : ℕ) (at : ℕ → Point) (course : ℕ → ℕ) → isGood (legsOf Fillets R n at course) ≡ true
+    → (i : ℕ) → 1 ≤ i → i < n → tangentAt R n at (i - 1) + tangentAt R n at i ≤ vectorLength (levelLegOf (at (i - 1)) (at i))
+unfolding legsOf legNumber tangentNumber
+leg-lengths R n at course h i l m =
+    length-fits _ _ (leb (tangentAt R n at (i - 1) + tangentAt R n at i) (vectorLength (levelLegOf (at (i - 1)) (at i)))) refl
+    (sweep-means (legNumber Fillets R n at course) (n - 1) 1 h i l (omega arith))
 
 -- lines have no rule on legs, and Dubins plans none on corners
 line-legs : (R n : ℕ) (at : ℕ → Point) (course : ℕ → ℕ) → legsOf Lines R n at course ≡ good done

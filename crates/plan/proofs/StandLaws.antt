@@ -1,8 +1,8 @@
 -- Refusal 14's part on the plan: the tests of a plan that stands, and what they give whoever flies it. Assumes nothing.
-use mathlib.Core.Path.{_≡_, sym, ap, _∙_}
+use mathlib.Core.Path.{_≡_, sym, ap, _∙_, subst}
 use mathlib.Core.Bool.{Bool, true, false, not}
 use mathlib.Core.List.{List}
-use Prim.Native.Nat.{ℕ, _-_, _≤_, _<_}
+use Prim.Native.Nat.{ℕ, _+_, _-_, _≤_, _<_}
 use native.Mathlib.Omega.{arith}
 use lib.Dec.{eqb, ltb}
 use lib.IntN.{ℤ}
@@ -16,15 +16,16 @@ use Rattle.refusals.specs.Sweep.{every}
 use Rattle.refusals.proofs.SweepLaws.{every-means, every-same, every-both, every-change}
 use Rattle.plane.specs.declared.Point.{Point}
 use Rattle.plane.specs.Area.{InArea}
+use Rattle.plane.specs.Level.{levelLegOf, vectorLength}
 use Rattle.plan.specs.declared.Mode.{Mode}
 use Rattle.plan.specs.declared.Mode.the-variants.{Lines, Fillets, Dubins}
 use Rattle.plan.specs.declared.Plan.{Plan}
 use Rattle.plan.specs.Limits.{fewestPoints, mostPoints, mostLevel, mostDown, mostRadius, fullCircle, signedBetween, numberFits, radiusFits}
 use Rattle.plan.specs.Places.{numberAt, placeAt, planPoint, planCourse}
-use Rattle.plan.specs.Rules.{modeOf, cornersOf, legsOf}
+use Rattle.plan.specs.Rules.{modeOf, tangentAt, cornersOf, legsOf}
 use Rattle.plan.specs.Stands.{givenOf, pointFits, courseFits, valuesFit, placeFits, placesFit, rulesOf, standsOf, Ranged, Aimed, IsCourse, Placed, Aiming, Long, ByMode, Stands}
 use Rattle.plan.proofs.LimitLaws.{area-means, zero-area, course-means, point-numbers, arc-least, radius-most}
-use Rattle.plan.proofs.RuleLaws.{corner-turns, leg-paths, rules-proper, rules-passed}
+use Rattle.plan.proofs.RuleLaws.{corner-turns, leg-paths, leg-lengths, rules-proper, rules-passed}
 
 -- ---- places
 point-area : (used : Bool) (p : Point) → pointFits used p ≡ true → InArea p
@@ -161,6 +162,14 @@ stands-means p h =
     let n = places-mean p (t .places) in
     let r = rules-passed (p .head .mode) (p .head .radius) (givenOf (p .head .mode) (p .head .count)) (p .head .count) (planPoint p) (planCourse p) (t .rules) in
     record { least = r .least; most = r .most; ranged = n .0; mode = by-mode p (p .head .mode) (radius-most (p .head .mode) (p .head .radius) (t .radius)) (n .1) (r .corners) (r .legs) }
+
+-- a fillet leg is as long as the tangent lengths at its ends
+pub stands-lengths : (p : Plan) → standsOf p ≡ true → p .head .mode ≡ Fillets → (i : ℕ) → 1 ≤ i → i < p .head .count
+    → tangentAt (p .head .radius) (p .head .count) (planPoint p) (i - 1) + tangentAt (p .head .radius) (p .head .count) (planPoint p) i ≤ vectorLength (levelLegOf (planPoint p (i - 1)) (planPoint p i))
+stands-lengths p h m =
+    let r = rules-passed (p .head .mode) (p .head .radius) (givenOf (p .head .mode) (p .head .count)) (p .head .count) (planPoint p) (planCourse p) (stands-tests p h .rules) in
+    leg-lengths (p .head .radius) (p .head .count) (planPoint p) (planCourse p)
+    (subst (λ (x : Mode). isGood (legsOf x (p .head .radius) (p .head .count) (planPoint p) (planCourse p)) ≡ true) m (r .legs))
 
 -- ---- the mode is that of the radius and of the number of courses
 fit-mode : (mode : Mode) (R n : ℕ) → radiusFits mode R ≡ true → fewestPoints ≤ n → modeOf R (givenOf mode n) ≡ mode

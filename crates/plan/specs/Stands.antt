@@ -92,11 +92,12 @@ pub record Placed (norths easts downs : List ℤ) (i : ℕ) : Type 0 where
   pub there : There norths easts downs i
   pub area : InArea (placeAt norths easts downs i)
 
--- what the leg from a to b is in north and east; for proofs alone
+-- what the leg from a to b is in north and east
 pub record IsLevelLeg (a b : Point) (leg : LevelLeg) : Type 0 where
   pub bearing : leg .bearing ≡ bearingOf (levelLegOf a b)
   pub below : leg .bearing < fullCircle
   pub squared : leg .squared ≡ squareOf (levelLegOf a b)
+  pub most : leg .squared ≤ 8000000000000
 
 pub record Aiming (courses : List ℤ) (i : ℕ) : Type 0 where
   pub there : i < length courses

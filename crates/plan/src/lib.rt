@@ -71,9 +71,9 @@ pub struct Plan {
 }
 
 // A leg in north and east: its bearing and its squared length.
-struct LevelLeg {
-    bearing: usize,
-    squared: u64,
+pub struct LevelLeg {
+    pub bearing: usize,
+    pub squared: u64,
 }
 
 // How many numbers the arrays of a plan have, and which stands where when they lie one after another.
@@ -377,7 +377,7 @@ fn leg_found(
 }
 
 // The leg that starts at place i.
-fn level_leg_at<'a>(norths: &'a [i32], easts: &'a [i32], downs: &'a [i32], i: usize) -> LevelLeg
+pub fn level_leg_at<'a>(norths: &'a [i32], easts: &'a [i32], downs: &'a [i32], i: usize) -> LevelLeg
     requires { ⌜ Placed (now norths) (now easts) (now downs) i × Placed (now norths) (now easts) (now downs) (i + 1) ⌝ }
     ensures { λ r. ⌜ IsLevelLeg (placeAt (now (norths .entry)) (now (easts .entry)) (now (downs .entry)) i) (placeAt (now (norths .entry)) (now (easts .entry)) (now (downs .entry)) (i + 1)) r ⌝ }
 {
@@ -427,6 +427,31 @@ fn fillet_rules<'a>(
     leg_found(found, leg.squared, radius, before, 0, n)
 }
 
+// The ends of the leg of a Dubins plan that ends at place i.
+pub fn leg_ends<'a>(
+    norths: &'a [i32],
+    easts: &'a [i32],
+    downs: &'a [i32],
+    courses: &'a [i32],
+    i: usize,
+    radius: u64,
+) -> Ends
+    requires { ⌜ (1 ≤ i) × ((Placed (now norths) (now easts) (now downs) (i - 1) × Placed (now norths) (now easts) (now downs) i) × ((Aiming (now courses) (i - 1) × Aiming (now courses) i) × (radius ≤ mostRadius))) ⌝ }
+    ensures { λ r. ⌜ (r ≡ endsAt radius (placeAt (now (norths .entry)) (now (easts .entry)) (now (downs .entry))) (courseAt (now (courses .entry))) (i - 1) i) × IsEnds r ⌝ }
+{
+    let start = point_at(norths, easts, downs, i - 1);
+    let end = point_at(norths, easts, downs, i);
+    let leave = course_at(courses, i - 1);
+    let arrive = course_at(courses, i);
+    Ends {
+        start,
+        leave,
+        end,
+        arrive,
+        radius,
+    }
+}
+
 // 12 and 17 of the leg of a Dubins plan that ends at place i.
 fn dubins_leg_at<'a>(
     norths: &'a [i32],
@@ -439,17 +464,7 @@ fn dubins_leg_at<'a>(
     requires { ⌜ (1 ≤ i) × ((Placed (now norths) (now easts) (now downs) (i - 1) × Placed (now norths) (now easts) (now downs) i) × ((Aiming (now courses) (i - 1) × Aiming (now courses) i) × (radius ≤ mostRadius))) ⌝ }
     ensures { λ r. ⌜ r ≡ endsNumber (endsAt radius (placeAt (now (norths .entry)) (now (easts .entry)) (now (downs .entry))) (courseAt (now (courses .entry))) (i - 1) i) ⌝ }
 {
-    let start = point_at(norths, easts, downs, i - 1);
-    let end = point_at(norths, easts, downs, i);
-    let leave = course_at(courses, i - 1);
-    let arrive = course_at(courses, i);
-    ends_number(Ends {
-        start,
-        leave,
-        end,
-        arrive,
-        radius,
-    })
+    ends_number(leg_ends(norths, easts, downs, courses, i, radius))
 }
 
 // 12 and 17 at each leg of a Dubins plan, by its end point.

@@ -37,6 +37,7 @@ returns c =
       bearing = b .value ∙ ap bearingOf e;
       below = b .low;
       squared = c .squared .ensures .0 ∙ ap squareOf e;
+      most = c .squared .ensures .1;
     }
 
 pub level-leg-at-spec : {M : Type 1} → statement M
