@@ -1,12 +1,12 @@
 -- A file in an autopilot's words, computed from the definitions. Assumes nothing.
-use mathlib.Core.Path.{_≡_, refl, ap}
+use mathlib.Core.Path.{_≡_, refl, sym, ap, _∙_}
 use mathlib.Core.Bool.{Bool, true}
 use mathlib.Core.List.{List, [], _∷_}
 use mathlib.Core.Logic.{inl, inr}
 use Prim.Native.Nat.{ℕ, zero, suc}
 use native.Mathlib.Omega.{arith}
 use lib.Dec.{ltb}
-use lib.IntN.{ℤ}
+use lib.IntN.{ℤ, pos}
 use borrow.Author.Tests.{ltb-true}
 use lib.Ieee.{ofBits, div, ofInt}
 use Rattle.conditions.specs.Choose.{choose}
@@ -16,7 +16,7 @@ use Rattle.conditions.proofs.Bools.{both-first, both-second}
 use Rattle.integers.specs.Root.{nextRoot, rootBy, rootOf}
 use Rattle.integers.specs.Round.{nearestOf}
 use Rattle.integers.specs.Wrap.{wrapOf}
-use Rattle.refusals.specs.Outcome.{Outcome, good, refused, check, andThen, isGood}
+use Rattle.refusals.specs.Outcome.{Outcome, good, refused, check, andThen, refusalOf, isGood}
 use Rattle.refusals.specs.Sweep.{sweep, every}
 use Rattle.course.specs.Table.{series, scaledSine, sineOf}
 use Rattle.course.specs.Vectors.{cross}
@@ -51,7 +51,10 @@ use Rattle.wpl.specs.Write.{carriedSince, writeOf, writtenOf, bufferOf}
 use Rattle.autopilot.specs.Calls.{fixFits, loadResult, loadState, loadAnswer, writeFile, writeAnswer, fixWords, fixNumbers, fixNumber, fixNext, writeFrom}
 use Rattle.autopilot.specs.CallList.{replyTo, wordsAfter, replies, wordsInTheEnd}
 use Rattle.autopilot.specs.TwoBuffers.{AreBytes}
-use Rattle.autopilot.specs.Example.{example, ones, CallExample, Separates, Lengths}
+use Rattle.distance.specs.Lengths.{total, levelLength, legLength, cornerArc, lengthFrom, entryOf}
+use Rattle.distance.specs.Table.{entriesFrom, entriesOf, distancesOf, tableOf, distanceOf, distanceBy}
+use Rattle.autopilot.specs.Distances.{distancesIn, distanceIn, distancesResult, distancesTable, distancesAnswer, distanceResult, distanceAnswer}
+use Rattle.autopilot.specs.Example.{DistanceExample, example, ones, wordsAt, calls, CallExample, Separates, Lengths}
 
 abbrev bytesIn : List ℕ → Bool
 bytesIn [] = true
@@ -105,4 +108,23 @@ lengths =
       length = refl;
       unwritten = refl;
       bytes = refl;
+    }
+
+pub distance-example : DistanceExample
+unfolding choose check andThen isGood sweep both every cross legOf levelOf plus minus levelLegOf dotOf squareOf vectorLength nextRoot rootBy rootOf dot3Of minorSize crossSize oppositeOf signedBetween insideOf inAreaOf zeroOf radiusFits modeOf coursesFit pairNumber cornerNumber legNumber pairsOf cornersOf legsOf geometryOn rulesOn givenOf pointFits courseFits valuesFit placeFits placesFit standsOf lastIndex onLastLeg lastPhase atEnd indexFits phaseFits endFits placedOf validOf modeAt wordAt holdsState takenOf pairFits wordOf refusalOf total levelLength legLength cornerArc lengthFrom entryOf entriesFrom entriesOf distancesOf tableOf distanceOf distanceBy distancesIn distanceIn distancesResult distancesTable distancesAnswer distanceResult distanceAnswer
+distance-example =
+    record {
+      told = refl;
+      short = refl;
+      first = refl;
+      last = refl;
+      none = (refl, refl);
+      stays = λ stay s h v. ap (λ (ws : List ℤ). distancesIn (takenOf ws) 4) (sym (in-numbers .0 .ended)) ∙ stay (wordsAt (pos 2) (pos 0)) s h v calls 4;
+      fit = (refl, (refl, refl));
+      fits = (refl, (refl, refl));
+      entries = refl;
+      answered = refl;
+      measured = refl;
+      refusal = refl;
+      misfit = (refl, refl);
     }

@@ -2,4 +2,5 @@ pub mod CallLaws
 pub mod HeldLaws
 pub mod FixLaws
 pub mod TwoBuffersLaws
+pub mod DistanceLaws
 pub mod Anchors

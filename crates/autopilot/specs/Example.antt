@@ -1,4 +1,4 @@
--- Holds clauses 17.1 to 17.3, 17.5, 17.7: a file of lines in an autopilot's words: what a load leaves in them and what a list of calls replies,
+-- Holds clauses 17.1 to 17.3, 17.5, 17.7, 17.18, 17.19: a file of lines in an autopilot's words: what a load leaves in them and what a list of calls replies,
 -- in numbers; and what two buffers that are alike give for it. A definition that is changed together with the code fails here. Assumes nothing.
 use mathlib.Core.Path.{_≡_}
 use mathlib.Core.Bool.{true, false}
@@ -10,13 +10,17 @@ use lib.Ieee.{Float}
 use Rattle.refusals.specs.Outcome.{good, refused}
 use Rattle.units.specs.declared.Fix.{Fix}
 use Rattle.units.specs.CheckedExamples.{fixOf}
+use Rattle.manager.specs.declared.State.{State}
+use Rattle.manager.specs.State.{validOf}
 use Rattle.c_answer.specs.Example.{float}
+use Rattle.c_state.specs.Stored.{takenOf}
 use Rattle.wpl.specs.declared.Loaded.{Loaded}
 use Rattle.wpl.specs.Load.{loadedOf}
 use Rattle.autopilot.specs.Calls.{loadFits, fixFits, writeFits, loadResult, loadState, loadAnswer, writeFile, writeAnswer}
-use Rattle.autopilot.specs.Held.{LoadHolds, FixHolds}
+use Rattle.autopilot.specs.Held.{Hold, LoadHolds, FixHolds}
 use Rattle.autopilot.specs.CallList.{Call, fix, write, Reply, fixed, written, replies, wordsInTheEnd}
 use Rattle.autopilot.specs.TwoBuffers.{loadedBy, AreBytes, AlikeBuffers}
+use Rattle.autopilot.specs.Distances.{distancesFit, distanceFits, distancesIn, distanceIn, distancesResult, distancesTable, distancesAnswer, distanceResult, distanceAnswer, TablesStay}
 
 -- the header, serial 7, and three points
 abbrev pub example : List ℕ
@@ -115,3 +119,22 @@ pub record Lengths : Type 0 where
   pub length : writeAnswer true (good example) (words 4) ≡ 0 ∷ 0 ∷ 53 ∷ 1 ∷ []
   pub unwritten : writeAnswer true (refused 7 0) (words 4) ≡ 7 ∷ 0 ∷ 0 ∷ 1 ∷ []
   pub bytes : writeFile true (good (65 ∷ 66 ∷ [])) (words 3) ≡ 65 ∷ 66 ∷ 1 ∷ []
+
+-- ---- the distance to go: 1000 and 2000, by the state's words and at both indices
+pub record DistanceExample : Type 0 where
+  pub told : distancesIn (takenOf (wordsAt (pos 2) (pos 0))) 4 ≡ good (3000 ∷ 2000 ∷ [])
+  pub short : distancesIn (takenOf (wordsAt (pos 2) (pos 0))) 3 ≡ refused 16 0
+  pub first : distanceIn (takenOf (wordsAt (pos 2) (pos 0))) ≡ good 3000
+  pub last : distanceIn (takenOf (wordsAt (pos 3) (pos 1))) ≡ good 2000
+  pub none : (distancesIn (takenOf (replicate 263 (negsuc 0))) 4 ≡ refused 14 0) × (distanceIn (takenOf (replicate 263 (negsuc 0))) ≡ refused 14 0)
+  -- after the calls above the words, at the last index and finished, have the same table: by the law
+  pub stays : TablesStay → (s : State) → Hold (wordsAt (pos 2) (pos 0)) s → validOf s ≡ true → distancesIn (takenOf (wordsAt (pos 3) (pos 1))) 4 ≡ good (3000 ∷ 2000 ∷ [])
+  -- which slices are long enough
+  pub fit : (distancesFit (states 263) (words 2) ≡ true) × ((distancesFit (states 262) (words 2) ≡ false) × (distancesFit (states 263) (words 1) ≡ false))
+  pub fits : (distanceFits (states 263) (words 3) ≡ true) × ((distanceFits (states 262) (words 3) ≡ false) × (distanceFits (states 263) (words 2) ≡ false))
+  -- what is left in longer ones: entries 2 and 3; refusal and place; refusal, place and decimetres
+  pub entries : distancesTable true (good (3000 ∷ 2000 ∷ [])) (words 5) ≡ 1 ∷ 1 ∷ 3000 ∷ 2000 ∷ 1 ∷ []
+  pub answered : distancesAnswer true (refused 16 0) (words 3) ≡ 16 ∷ 0 ∷ 1 ∷ []
+  pub measured : distanceAnswer true (good 3000) (words 4) ≡ 0 ∷ 0 ∷ 3000 ∷ 1 ∷ []
+  pub refusal : distanceAnswer true (refused 14 0) (words 4) ≡ 14 ∷ 0 ∷ 0 ∷ 1 ∷ []
+  pub misfit : (distancesResult false (good []) ≡ 100) × (distanceResult false (good 1) ≡ 100)

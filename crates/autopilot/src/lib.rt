@@ -1,6 +1,9 @@
-// The path manager for C: a state in words that the caller keeps; loads, fixes and writes over lent memory. The header is include/farnkuppel.h.
+// The path manager for C: a state in words that the caller keeps; loads, fixes, writes and the distance to go over lent memory. The header is
+// include/farnkuppel.h.
+use distance::Measured;
 use guidance::Command;
 use manager::Decided;
+use refusals::Refusal;
 use units::Fix;
 use wpl::Written;
 ghost use mathlib.Core.Path.{_≡_};
@@ -8,23 +11,30 @@ ghost use mathlib.Core.Bool.{true};
 ghost use Prim.Native.Nat.{_≤_};
 ghost use lib.ListN.{length};
 ghost use Rattle.refusals.specs.Numbers.{noState};
+ghost use Rattle.refusals.specs.Outcome.{refusalOf};
 ghost use Rattle.buffers.specs.Splice.{over};
 ghost use Rattle.guidance.specs.declared.Command.the-variants.{Nothing};
 ghost use Rattle.manager.specs.Step.{steppedBy, stepOf};
 ghost use Rattle.c_answer.specs.Words.{interface, commandNumbers};
-ghost use Rattle.c_state.specs.Stored.{serialPlace, indexPlace, northsPlace, stateLength, planAt, stateAt, holdsState, AreWords};
+ghost use Rattle.c_state.specs.Stored.{serialPlace, indexPlace, northsPlace, stateLength, planAt, stateAt, holdsState, takenOf, AreWords};
+ghost use Rattle.distance.specs.Table.{tableOf, distanceBy};
 ghost use Rattle.wpl.specs.Load.{loadOf, loadedOf};
 ghost use Rattle.wpl.specs.Write.{writeOf, writtenOf, bufferOf};
 ghost use Rattle.autopilot.specs.Held.{Untouched, LoadHolds, FixHolds};
 ghost use Rattle.autopilot.specs.CallList.{CallsRun};
 ghost use Rattle.autopilot.specs.TwoBuffers.{AlikeBuffers, BuffersFly};
-ghost use Rattle.autopilot.specs.Example.{CallExample, Separates, Lengths};
+ghost use Rattle.autopilot.specs.Example.{CallExample, Separates, Lengths, DistanceExample};
 ghost use Rattle.autopilot.specs.Calls.{loadFits, loadResult, loadState, loadAnswer, fixFits, refusedWords, fixResult, fixState, fixAnswer, fixCommand, writeFits, writeFrom, writeResult, writeFile, writeAnswer};
+ghost use Rattle.autopilot.specs.Distances.{distancesIn, distanceIn, distancesFit, distancesResult, distancesTable, distancesAnswer, distanceFits, distanceResult, distanceAnswer, TablesStay};
 
-// The words of the answers to a load and to a write.
+// The words of the answers to a load, a write and the questions for distances.
 pub const LOAD_ANSWER: usize = 2;
 
 pub const WRITE_ANSWER: usize = 3;
+
+pub const DISTANCES_ANSWER: usize = 2;
+
+pub const DISTANCE_ANSWER: usize = 3;
 
 // The number of this interface, by which a caller knows that the archive and the header belong together.
 #[no_mangle]
@@ -186,5 +196,83 @@ pub extern "C" fn farnkuppel_write(
         c_answer::word(written.length),
     ];
     buffers::put_words(&values, answer);
+    number
+}
+
+// The table of distances of the state that words hold. Their blocks are lent as they lie.
+fn distances_at(words: &[i32], table: &mut [u32]) -> Refusal
+    requires { ⌜ stateLength ≤ length (now words) ⌝ }
+    ensures { λ r. ⌜ r ≡ refusalOf (distancesIn (takenOf (now (words .entry))) (length (now (table .entry)))) ⌝ }
+    ensures { λ _. ⌜ now (table .exit) ≡ tableOf (distancesIn (takenOf (now (words .entry))) (length (now (table .entry)))) (now (table .entry)) ⌝ }
+{
+    if c_state::holds_state(words) {
+        return distance::distances_from(
+            c_state::head_at(words),
+            c_state::progress_at(words),
+            &words[c_state::NORTHS_PLACE..c_state::EASTS_PLACE],
+            &words[c_state::EASTS_PLACE..c_state::DOWNS_PLACE],
+            &words[c_state::DOWNS_PLACE..c_state::COURSES_PLACE],
+            &words[c_state::COURSES_PLACE..c_state::STATE_LENGTH],
+            table,
+        );
+    }
+    Refusal {
+        number: refusals::NO_STATE,
+        place: 0,
+    }
+}
+
+// The distance to go from each index of a state's plan on. Refused, nothing of the table is written.
+#[no_mangle]
+pub extern "C" fn farnkuppel_distances(state: &[i32], table: &mut [u32], answer: &mut [u32]) -> u32
+    ensures { λ r. ⌜ r ≡ distancesResult (distancesFit (now (state .entry)) (now (answer .entry))) (distancesIn (takenOf (now (state .entry))) (length (now (table .entry)))) ⌝ }
+    ensures { λ _. ⌜ now (table .exit) ≡ distancesTable (distancesFit (now (state .entry)) (now (answer .entry))) (distancesIn (takenOf (now (state .entry))) (length (now (table .entry)))) (now (table .entry)) ⌝ }
+    ensures { λ _. ⌜ now (answer .exit) ≡ distancesAnswer (distancesFit (now (state .entry)) (now (answer .entry))) (distancesIn (takenOf (now (state .entry))) (length (now (table .entry)))) (now (answer .entry)) ⌝ }
+    ensures { λ r. ⌜ Untouched r (now (table .entry)) (now (table .exit)) ⌝ }
+    ensures { λ _. ⌜ TablesStay × DistanceExample ⌝ }
+{
+    if !c_state::fits(state.len(), answer.len(), DISTANCES_ANSWER) {
+        return refusals::MISFIT as u32;
+    }
+    let found = distances_at(state, table);
+    let number = found.number as u32;
+    buffers::put_words(&[number, c_answer::word(found.place)], answer);
+    number
+}
+
+// The distance to go of the state that words hold. Their blocks are lent as they lie.
+fn distance_at(words: &[i32]) -> Measured
+    requires { ⌜ stateLength ≤ length (now words) ⌝ }
+    ensures { λ r. ⌜ r ≡ distanceBy (distanceIn (takenOf (now (words .entry)))) ⌝ }
+{
+    if c_state::holds_state(words) {
+        return distance::distance_from(
+            c_state::head_at(words),
+            c_state::progress_at(words),
+            &words[c_state::NORTHS_PLACE..c_state::EASTS_PLACE],
+            &words[c_state::EASTS_PLACE..c_state::DOWNS_PLACE],
+            &words[c_state::DOWNS_PLACE..c_state::COURSES_PLACE],
+            &words[c_state::COURSES_PLACE..c_state::STATE_LENGTH],
+        );
+    }
+    Measured {
+        refusal: refusals::NO_STATE,
+        place: 0,
+        left: 0,
+    }
+}
+
+// The distance to go from a state's index on.
+#[no_mangle]
+pub extern "C" fn farnkuppel_distance(state: &[i32], answer: &mut [u32]) -> u32
+    ensures { λ r. ⌜ r ≡ distanceResult (distanceFits (now (state .entry)) (now (answer .entry))) (distanceIn (takenOf (now (state .entry)))) ⌝ }
+    ensures { λ _. ⌜ now (answer .exit) ≡ distanceAnswer (distanceFits (now (state .entry)) (now (answer .entry))) (distanceIn (takenOf (now (state .entry)))) (now (answer .entry)) ⌝ }
+{
+    if !c_state::fits(state.len(), answer.len(), DISTANCE_ANSWER) {
+        return refusals::MISFIT as u32;
+    }
+    let found = distance_at(state);
+    let number = found.refusal as u32;
+    buffers::put_words(&[number, c_answer::word(found.place), found.left], answer);
     number
 }
