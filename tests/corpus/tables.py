@@ -4,6 +4,7 @@ A corpus folder answers for the rules as they were at first; `requests/NN` below
 """
 
 STRIPS = "requests/01"  # strip plans and plans that are none
+DISTANCES = "requests/02"  # states of every mode, with the distances to go
 LAST_LEG = "requests/04"  # "Fly the last leg": flights and states of lines and fillets
 DUBINS = "2"  # the mode of a Dubins state; request 4 leaves those alone
 

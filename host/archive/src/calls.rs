@@ -35,6 +35,20 @@ mod c {
             answer: *mut u32,
             answer_length: usize,
         ) -> u32;
+        pub fn farnkuppel_distances(
+            state: *const i32,
+            state_length: usize,
+            table: *mut u32,
+            table_length: usize,
+            answer: *mut u32,
+            answer_length: usize,
+        ) -> u32;
+        pub fn farnkuppel_distance(
+            state: *const i32,
+            state_length: usize,
+            answer: *mut u32,
+            answer_length: usize,
+        ) -> u32;
         pub fn farnkuppel_refusal(file: *const u8, length: usize, reader: u32) -> u32;
         pub fn farnkuppel_check(
             file: *const u8,
@@ -117,6 +131,25 @@ pub fn write(state: &[i32], version: u32, file: &mut [u8], answer: &mut [u32]) -
             answer.len(),
         )
     }
+}
+
+pub fn distances(state: &[i32], table: &mut [u32], answer: &mut [u32]) -> u32 {
+    // SAFETY: every pointer comes with the length of its slice, and the slices are apart.
+    unsafe {
+        c::farnkuppel_distances(
+            state.as_ptr(),
+            state.len(),
+            table.as_mut_ptr(),
+            table.len(),
+            answer.as_mut_ptr(),
+            answer.len(),
+        )
+    }
+}
+
+pub fn distance(state: &[i32], answer: &mut [u32]) -> u32 {
+    // SAFETY: every pointer comes with the length of its slice, and the slices are apart.
+    unsafe { c::farnkuppel_distance(state.as_ptr(), state.len(), answer.as_mut_ptr(), answer.len()) }
 }
 
 pub fn refusal(file: &[u8], reader: u32) -> u32 {

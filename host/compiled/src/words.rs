@@ -3,17 +3,22 @@
 use archive::size::COMMAND_NUMBERS;
 use archive::{number, size};
 use archive::{Answer as AnswerWords, Command as CommandNumbers, CIRCLE_CENTRE, LINE_DIRECTION, LINE_START};
+use reference::distance::{distance, distances};
 use reference::strips::{self, Fault, Row};
 use reference::{Answer, Command, Mode, Refusal, State};
 use std::fmt::UpperHex;
 
 pub use archive::size::{
-    STATE_COUNT as COUNT, STATE_COURSES as COURSES, STATE_DOWNS as DOWNS, STATE_EASTS as EASTS,
+    DISTANCE_LEFT, STATE_COUNT as COUNT, STATE_COURSES as COURSES, STATE_DOWNS as DOWNS, STATE_EASTS as EASTS,
     STATE_FINISHED as FINISHED, STATE_INDEX as INDEX, STATE_MODE as MODE, STATE_NORTHS as NORTHS, STATE_PHASE as PHASE,
     STATE_RADIUS as RADIUS, STATE_SERIAL as SERIAL, STATE_WORDS,
 };
 
 pub type Words = archive::State;
+
+/// The words of a question for a table of distances, and for the distance at a state.
+pub type DistancesWords = [u32; size::DISTANCES_WORDS];
+pub type DistanceWords = [u32; size::DISTANCE_WORDS];
 
 /// The words of a check for strips, and of a strip.
 pub type StripsWords = [u32; size::STRIPS_WORDS];
@@ -148,9 +153,41 @@ pub fn of_no_state(words: &Words) -> (AnswerWords, CommandNumbers) {
     (answer, [0.0; COMMAND_NUMBERS])
 }
 
+const NO_REFUSAL: Refusal = Refusal { number: number::ACCEPTED, place: 0 };
+const NO_STATE: Refusal = Refusal { number: number::REFUSED_NO_STATE, place: 0 };
+
+/// A table of distances: that it is made, or why not.
+pub fn of_distances(made: &Result<(), Refusal>) -> DistancesWords {
+    let refusal = made.err().unwrap_or(NO_REFUSAL);
+    let mut words = [0; size::DISTANCES_WORDS];
+    words[size::DISTANCES_REFUSAL] = refusal.number;
+    words[size::DISTANCES_PLACE] = refusal.place;
+    words
+}
+
+/// Makes the table of distances of the state that words hold.
+pub fn distances_of(words: &Words, table: &mut [u32]) -> DistancesWords {
+    of_distances(&to_state(words).map_or(Err(NO_STATE), |state| distances(&state, table)))
+}
+
+/// The distance at a state, 0 where it is refused.
+pub fn of_distance(left: &Result<u32, Refusal>) -> DistanceWords {
+    let refusal = left.err().unwrap_or(NO_REFUSAL);
+    let mut words = [0; size::DISTANCE_WORDS];
+    words[size::DISTANCE_REFUSAL] = refusal.number;
+    words[size::DISTANCE_PLACE] = refusal.place;
+    words[size::DISTANCE_LEFT] = left.unwrap_or(0);
+    words
+}
+
+/// The distance at the state that words hold.
+pub fn distance_of(words: &Words) -> DistanceWords {
+    of_distance(&to_state(words).map_or(Err(NO_STATE), |state| distance(&state)))
+}
+
 /// A check for strips: how many there are, or what is at fault.
 pub fn of_check(checked: &Result<u32, Fault>) -> StripsWords {
-    let accepted = Fault { refusal: Refusal::plain(number::ACCEPTED), rule: 0 };
+    let accepted = Fault { refusal: NO_REFUSAL, rule: 0 };
     let fault = checked.err().unwrap_or(accepted);
     let mut words = [0; size::STRIPS_WORDS];
     words[size::STRIPS_REFUSAL] = fault.refusal.number;
@@ -162,7 +199,7 @@ pub fn of_check(checked: &Result<u32, Fault>) -> StripsWords {
 
 /// The check for strips of the state that words hold.
 pub fn strips_of(words: &Words) -> StripsWords {
-    let no_state = Fault { refusal: Refusal::plain(number::REFUSED_NO_STATE), rule: 0 };
+    let no_state = Fault { refusal: NO_STATE, rule: 0 };
     of_check(&to_state(words).map_or(Err(no_state), |state| strips::check(&state)))
 }
 

@@ -1,5 +1,6 @@
 //! Each call made twice, by the reference and by the compiled manager, and every word compared.
 
+use crate::distance_counts::Distances;
 use crate::notes::Notes;
 use crate::strips::Strips;
 use compiled::calls::{
@@ -34,6 +35,7 @@ pub struct Tally {
     pub ends: [u64; 3],
     pub notes: Notes,
     pub strips: Strips,
+    pub distances: Distances,
 }
 
 /// Seed and number of the case at hand.
@@ -158,7 +160,7 @@ impl Tally {
         }
     }
 
-    /// Every call with one lent slice a word or more too short: refused, and nothing written.
+    /// Calls with one lent slice a word or more too short: refused, and nothing written. Those for a note and for distances have their own.
     pub fn compare_short_slices(&mut self, case: Case, state: &Words, file: &[u8], cut: usize) {
         let (mut lent, serial) = (*state, state[SERIAL] as u32);
         let mut answer = [PATTERN; ANSWER_WORDS];

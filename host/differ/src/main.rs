@@ -1,9 +1,11 @@
 //! Differential tests of the compiled path manager against the reference.
 //!
-//! differ loads|fixes|writes|states|notes|strips|all N SEED
+//! differ loads|fixes|writes|states|notes|strips|distances|all N SEED
 
 mod chance;
 mod compare;
+mod distance_counts;
+mod distances;
 mod files;
 mod notes;
 mod plans;
@@ -17,7 +19,7 @@ use compiled::calls::{interfaces, INTERFACE};
 use std::fmt::{Debug, Display};
 use std::process::ExitCode;
 
-/// From this many loads, fixes, writes or checks for strips on, all that must come of them must have come.
+/// From this many loads, fixes, writes, checks for strips or states asked for distances on, all that must come of them must have come.
 const FULL_RUN: u64 = 100_000;
 
 /// The refusals that must come. 17 is none of them: with ends three radii apart every Dubins leg has a case.
@@ -35,7 +37,8 @@ fn run(part: &str, n: u64, seed: u64, tally: &mut Tally) -> bool {
         "states" => runs::states(tally, n, seed),
         "notes" => notes::run(tally, n, seed),
         "strips" => strips::run(tally, n, seed),
-        "all" => ["loads", "fixes", "writes", "states", "notes", "strips"].iter().for_each(|part| {
+        "distances" => distances::run(tally, n, seed),
+        "all" => ["loads", "fixes", "writes", "states", "notes", "strips", "distances"].iter().for_each(|part| {
             run(part, n, seed, tally);
         }),
         _ => return false,
@@ -60,6 +63,7 @@ fn print_counts(tally: &Tally) {
     println!("{}", counts("ends", MODES, &tally.ends));
     println!("{}", tally.notes.counts());
     println!("{}", tally.strips.counts());
+    println!("{}", tally.distances.counts());
 }
 
 /// False where something is missing in a full run, which is said.
@@ -82,8 +86,8 @@ fn missing_modes(came: &[u64; 3]) -> Vec<&'static str> {
 /// Prints what came; false where something is missing in a full run.
 fn report(tally: &Tally) -> bool {
     print_counts(tally);
-    let Tally { loads, fixes, writes, load_refusals, fix_refusals, write_refusals, last_legs, ends, strips, .. } =
-        tally;
+    let Tally { loads, fixes, writes, load_refusals, fix_refusals, write_refusals, last_legs, ends, .. } = tally;
+    let Tally { strips, distances, .. } = tally;
     let each = [
         all_came(*loads, "refusals that never came in loads", missing_refusals(&OF_LOADS, load_refusals)),
         all_came(*fixes, "refusals that never came in fixes", missing_refusals(&OF_FIXES, fix_refusals)),
@@ -92,6 +96,7 @@ fn report(tally: &Tally) -> bool {
         all_came(*fixes, "modes that no fix ended", missing_modes(ends)),
         all_came(strips.checks, "what never came of strips", strips.missing()),
         all_came(strips.checks, "numbers of strips that no strip plan had", strips.missing_plans()),
+        all_came(distances.states, "what never came of distances", distances.missing()),
     ];
     each.iter().all(|whole| *whole)
 }
@@ -105,13 +110,13 @@ fn main() -> ExitCode {
     let numbers: Vec<u64> = arguments.iter().skip(1).filter_map(|text| text.parse().ok()).collect();
     let mut tally = Tally::default();
     if arguments.len() != 3 || numbers.len() != 2 || !run(&arguments[0], numbers[0], numbers[1], &mut tally) {
-        eprintln!("usage: differ loads|fixes|writes|states|notes|strips|all N SEED");
+        eprintln!("usage: differ loads|fixes|writes|states|notes|strips|distances|all N SEED");
         return ExitCode::from(2);
     }
     let whole = report(&tally);
-    let Tally { loads, fixes, writes, notes, strips, disagreements, .. } = tally;
-    let (notes, strips) = (notes.asked, strips.checks);
-    println!("loads {loads} fixes {fixes} writes {writes} notes {notes} strips {strips} disagreements {disagreements}");
+    let Tally { loads, fixes, writes, notes, strips, distances, disagreements, .. } = tally;
+    let (notes, strips, distances) = (notes.asked, strips.checks, distances.states);
+    println!("loads {loads} fixes {fixes} writes {writes} notes {notes} strips {strips} distances {distances} disagreements {disagreements}");
     if whole && disagreements == 0 {
         ExitCode::SUCCESS
     } else {

@@ -1,4 +1,4 @@
-//! The runs: loads, fixes, writes, states. Those of notes and strips stand with their comparisons.
+//! The runs: loads, fixes, writes, states. Those of notes, strips and distances stand with their comparisons.
 
 use crate::chance::Chance;
 use crate::compare::{Case, Tally};

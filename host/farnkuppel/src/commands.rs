@@ -1,6 +1,7 @@
 //! The commands, and which of them the words name.
 
 use crate::arguments::{Asked, Call, Command};
+use crate::distance;
 use crate::fixes::{self, Fix};
 use crate::flight::{Flight, Numbers, COLUMNS};
 use crate::help;
@@ -16,9 +17,10 @@ use crate::text;
 use archive::number::{INTERFACE, NEWEST};
 use archive::{calls, RELEASE};
 use std::ffi::OsString;
+use std::fmt::Display;
 use std::io::Write;
 
-pub const COMMANDS: [Command; 10] = [
+pub const COMMANDS: [Command; 11] = [
     Command {
         name: "check",
         files: &["PLAN"],
@@ -35,6 +37,14 @@ pub const COMMANDS: [Command; 10] = [
         does: "list the strips of a strip plan",
         help: help::STRIPS,
         run: list_strips,
+    },
+    Command {
+        name: "distance",
+        files: &["PLAN"],
+        options: &[],
+        does: "print the metres to go from each leg of a plan on",
+        help: help::DISTANCE,
+        run: print_distance,
     },
     Command {
         name: "notes",
@@ -98,11 +108,14 @@ pub const COMMANDS: [Command; 10] = [
 fn loaded(file: &[u8], reader: u32, out: &mut dyn Write) -> Result<Option<Plan>, Stop> {
     match Plan::load(file, reader) {
         Ok(plan) => Ok(Some(plan)),
-        Err(refusal) => {
-            writeln!(out, "{refusal}")?;
-            Ok(None)
-        }
+        Err(refusal) => refuse(refusal, out).map(|_| None),
     }
+}
+
+/// The line of a refusal on standard output.
+fn refuse(refusal: impl Display, out: &mut dyn Write) -> Answered {
+    writeln!(out, "{refusal}")?;
+    Ok(Status::Refused)
 }
 
 fn lines(out: &mut dyn Write, lines: impl IntoIterator<Item = String>) -> Answered {
@@ -137,10 +150,18 @@ fn list_strips(call: &Call, out: &mut dyn Write) -> Answered {
     };
     match strips::of(&plan) {
         Ok(strips) => lines(out, text::strip_listing(&plan, &strips)),
-        Err(refusal) => {
-            writeln!(out, "{refusal}")?;
-            Ok(Status::Refused)
-        }
+        Err(refusal) => refuse(refusal, out),
+    }
+}
+
+fn print_distance(call: &Call, out: &mut dyn Write) -> Answered {
+    let file = Input::open(&call.files[0])?.plan()?;
+    let Some(plan) = loaded(&file, NEWEST, out)? else {
+        return Ok(Status::Refused);
+    };
+    match distance::of(&plan) {
+        Ok(table) => lines(out, table.iter().map(ToString::to_string)),
+        Err(refusal) => refuse(refusal, out),
     }
 }
 
@@ -177,10 +198,7 @@ fn new(call: &Call, out: &mut dyn Write) -> Answered {
             writeln!(out, "written: {}, {} bytes", target.name, file.len())?;
             Ok(Status::Done)
         }
-        Err(refusal) => {
-            writeln!(out, "{}", refused(refusal))?;
-            Ok(Status::Refused)
-        }
+        Err(refusal) => refuse(refused(refusal), out),
     }
 }
 

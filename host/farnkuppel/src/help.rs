@@ -12,7 +12,7 @@ const COMMON: &str = "
   farnkuppel --version         the release, the interface and the newest version of plan files
 
 Units: points and radii are whole decimetres; north, east and down. Courses and headings are 1/4096 of a circle, clockwise from north.
-Fixes and commands are in metres.
+Fixes, commands and the distance to go are in metres.
 Exit status: 0 done; 1 the plan is refused, and the answer says why: refused NUMBER at PLACE: REASON; 2 usage or file trouble, one line
 on standard error. Files are written whole or not at all, and never over an input. Options end at --; a file's name can be -.
 ";
@@ -40,6 +40,15 @@ A strip plan is a dubins plan with an even number of points: 1 and 2, 3 and 4 an
 
 Any other plan is refused, 'refused 18 at STRIP rule RULE: no strip plan: FAULT', by the first strip at fault and the first rule that it
 breaks, which FAULT says in words: 0 and 0 where it is no dubins plan or has an odd number of points, and FAULT says which.
+";
+
+pub const DISTANCE: &str = "\
+Prints a line 'INDEX METRES' for each index of PLAN, from 2 to the number of its points, as the newest reader loads it: the metres to go
+from there on, over ground, which are the leg to that point and all that follows. The leg counts whole, wherever on it an aircraft with
+that index is ('fly' prints the index after each fix), so that the line of the last index has the last leg, and not 0.
+
+In lines a leg goes from point to point. In fillets it is the straight part between the circles at its ends, and the arc at the point that
+it leads to counts with it. In dubins it is the whole path from course to course. Roots and arcs are rounded down to whole decimetres.
 ";
 
 pub const NOTES: &str = "\

@@ -3,6 +3,7 @@
 
 mod arguments;
 mod commands;
+mod distance;
 mod fixes;
 mod flight;
 mod help;

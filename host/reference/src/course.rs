@@ -129,6 +129,11 @@ pub fn root(x: i64) -> i64 {
     r
 }
 
+/// The length of an arc, to the lower whole: 355/113 stands for the number pi.
+pub fn arc(radius: i64, turn: i64) -> i64 {
+    radius * turn * 355 / 231_424
+}
+
 /// The lesser way round between two courses, 0..=2048.
 pub fn turn_between(a: i64, b: i64) -> i64 {
     let way = (b - a).rem_euclid(CIRCLE);
@@ -176,5 +181,13 @@ mod tests {
             assert_eq!(root(r * r), r);
             assert_eq!(root(r * r + 2 * r), r);
         }
+    }
+
+    #[test]
+    fn arcs_are_floors() {
+        // 314.16 and 157.08 of a radius of 200; a whole circle of 113 is 710 exactly.
+        assert_eq!((arc(200, 0), arc(200, 512), arc(200, 1024), arc(113, 4096)), (0, 157, 314, 710));
+        // A unit less: 709.8.
+        assert_eq!(arc(113, 4095), 709);
     }
 }

@@ -1,6 +1,6 @@
 //! Dubins mode: the shortest of the four cases for a leg.
 
-use crate::course::{bearing, dot, less, off, plus, root, Level, CIRCLE, QUARTER};
+use crate::course::{arc, bearing, dot, less, off, plus, root, Level, CIRCLE, QUARTER};
 use crate::state::State;
 
 /// Which way a circle of a case goes: +1 right, -1 left.
@@ -74,7 +74,7 @@ fn case_path(state: &State, i: usize, case: (Sense, Sense)) -> Option<Path> {
         start_centre,
         end_centre,
         theta,
-        length: straight + radius * (start_turn + end_turn) * 355 / 231_424,
+        length: straight + arc(radius, start_turn + end_turn),
         z1: plus(start_centre, off(radius, theta - QUARTER * case.0)),
         z2: plus(end_centre, off(radius, theta - QUARTER * case.1)),
     })

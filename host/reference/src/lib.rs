@@ -24,6 +24,7 @@ pub mod rules;
 pub mod sound;
 
 // What is asked from outside.
+pub mod distance;
 pub mod file;
 pub mod fix;
 pub mod strips;

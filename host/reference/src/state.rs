@@ -4,7 +4,7 @@ use crate::course::Level;
 
 pub const PLACES: usize = 64;
 
-#[derive(Clone, Copy, Debug, PartialEq, Eq)]
+#[derive(Clone, Copy, Debug, PartialEq, Eq, PartialOrd, Ord)]
 pub enum Mode {
     Lines,
     Fillets,

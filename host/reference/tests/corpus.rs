@@ -1,8 +1,10 @@
 //! The expected answers of a corpus folder, named by the environment variable CORPUS; skipped where that is unset or empty.
 //!
-//! Its folder requests/04 decides the last leg of lines and fillets, requests/01 the strips, and the folder itself all else.
+//! Its folder requests/04 decides the last leg of lines and fillets, requests/01 the strips, requests/02 the distances to go, and the folder itself
+//! all else.
 
-use reference::{load, note, strips, write, Answer, Command, Mode, State};
+use reference::state::PLACES;
+use reference::{distance, load, note, strips, write, Answer, Command, Mode, State};
 use std::collections::BTreeMap;
 use std::path::{Path, PathBuf};
 
@@ -27,6 +29,10 @@ fn last_leg_corpus() -> Option<PathBuf> {
 
 fn strips_corpus() -> Option<PathBuf> {
     corpus().map(|folder| folder.join("requests/01"))
+}
+
+fn distances_corpus() -> Option<PathBuf> {
+    corpus().map(|folder| folder.join("requests/02"))
 }
 
 /// The rows of a table, some at least.
@@ -237,4 +243,43 @@ fn strip_plans() {
         // Numbers that no strip has are asked too.
         assert_eq!(listed_strips(&state, 0..=state.count.saturating_add(1)), row["rows"], "{row:?}");
     }
+}
+
+/// What a table holds before it is filled, and so many entries on both sides of the part that is lent.
+const UNTOUCHED: u32 = 0xA5A5_A5A5;
+const BESIDE: usize = 3;
+
+/// A table of so many entries, with those beside it, that has these from entry 2 on.
+fn table_with(length: usize, entries: &[u32]) -> Vec<u32> {
+    let mut table = vec![UNTOUCHED; length + 2 * BESIDE];
+    table[BESIDE + 2..][..entries.len()].copy_from_slice(entries);
+    table
+}
+
+/// The distance at a state is the entry at its index of a table that has room for every plan, and refused where that is.
+fn assert_entry_is_left(state: &State) {
+    let mut table = [UNTOUCHED; PLACES + 1];
+    let made = distance::distances(state, &mut table);
+    assert_eq!(distance::distance(state), made.map(|()| table[state.index as usize]), "{state:?}");
+}
+
+#[test]
+fn distances_to_go() {
+    let Some(folder) = distances_corpus() else { return };
+    let mut compared = Compared::default();
+    for row in rows(&folder, "distances.tsv") {
+        let (state, length) = (state_of(&row), whole(&row["table"]) as usize);
+        let entries: Vec<u32> = listed(&row["entries"]).map(whole).collect();
+        let mut table = table_with(length, &[]);
+        let answer = distance::distances(&state, &mut table[BESIDE..][..length]);
+        let got = answer.map_or_else(|r| [r.number, r.place], |()| [0; 2]);
+        assert_eq!(got, ["refusal", "place"].map(|name| whole(&row[name])), "{row:?}");
+        assert_eq!(table, table_with(length, &entries), "{row:?}");
+        assert_entry_is_left(&state);
+        if answer.is_ok() {
+            assert_eq!(entries.len() + 1, state.count as usize, "{row:?}");
+            compared.count(state.mode);
+        }
+    }
+    compared.assert_some(&[Mode::Lines, Mode::Fillets, Mode::Dubins]);
 }

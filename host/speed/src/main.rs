@@ -1,5 +1,5 @@
-//! Fixes, loads and checks for strips timed against the reference, both in one run on the same bytes: `speed [FIXES [LOADS]]`, and as many checks
-//! as loads.
+//! Fixes, loads, tables of distances and checks for strips timed against the reference, both in one run on the same bytes: `speed [FIXES [LOADS]]`,
+//! and as many tables and checks as loads.
 
 mod plans;
 mod timing;
@@ -8,7 +8,7 @@ use plans::{plan, simulated};
 use reference::state::PLACES;
 use reference::{write, Mode};
 use std::process::ExitCode;
-use timing::{fixes, loads, strips, Times};
+use timing::{distances, fixes, loads, strips, Times};
 
 const MODES: [(Mode, &str); 3] = [(Mode::Lines, "lines"), (Mode::Fillets, "fillets"), (Mode::Dubins, "dubins")];
 const COUNTS: [usize; 3] = [3, 16, PLACES];
@@ -40,6 +40,7 @@ fn main() -> ExitCode {
             let file = write(&state, 3, usize::MAX).expect("the plan is sound");
             row(name, count, "fix", fixes(&state, &simulated(&state), fix_count));
             row(name, count, "load", loads(&file, load_count));
+            row(name, count, "table", distances(&state, load_count));
         }
     }
     for count in STRIP_COUNTS {

@@ -1,10 +1,10 @@
 //! The same calls by three: the compiled manager, the reference over the words of the C interface, and the reference with its own state. They
 //! take turns, so that what else the machine does falls on all of them.
 
-use compiled::calls::{self, ANSWER_WORDS, COMMAND_NUMBERS, LOAD_WORDS, STRIPS_WORDS};
+use compiled::calls::{self, ANSWER_WORDS, COMMAND_NUMBERS, DISTANCES_WORDS, LOAD_WORDS, STRIPS_WORDS, TABLE_ENTRIES};
 use compiled::words::{self, Words, FINISHED, INDEX, PHASE, SERIAL, STATE_WORDS};
 use reference::strips::check;
-use reference::{load, State};
+use reference::{distance, load, State};
 use std::hint::black_box;
 use std::ops::Range;
 use std::time::Instant;
@@ -134,5 +134,34 @@ pub fn strips(state: &State, count: u64) -> Times {
         |turn: Range<u64>, sum: Sum| turn.fold(sum, |sum, _| mixed(sum, &words::strips_of(black_box(&held))));
     let mut native =
         |turn: Range<u64>, sum: Sum| turn.fold(sum, |sum, _| mixed(sum, &words::of_check(&check(black_box(state)))));
+    by_turns(count, [&mut compiled, &mut by_words, &mut native])
+}
+
+/// Tables of distances, each with room for every plan; what is written of them is added up.
+pub fn distances(state: &State, count: u64) -> Times {
+    let held = words::of_state(state);
+    let last = state.count as usize;
+    let added = |sum: Sum, answer: &[u32], table: &[u32; TABLE_ENTRIES]| mixed(mixed(sum, answer), &table[2..=last]);
+    let mut compiled = |turn: Range<u64>, sum: Sum| {
+        turn.fold(sum, |sum, _| {
+            let (mut table, mut answer) = ([0; TABLE_ENTRIES], [0; DISTANCES_WORDS]);
+            calls::distances(black_box(&held), &mut table, &mut answer);
+            added(sum, &answer, &table)
+        })
+    };
+    let mut by_words = |turn: Range<u64>, sum: Sum| {
+        turn.fold(sum, |sum, _| {
+            let mut table = [0; TABLE_ENTRIES];
+            let answer = words::distances_of(black_box(&held), &mut table);
+            added(sum, &answer, &table)
+        })
+    };
+    let mut native = |turn: Range<u64>, sum: Sum| {
+        turn.fold(sum, |sum, _| {
+            let mut table = [0; TABLE_ENTRIES];
+            let answer = words::of_distances(&distance::distances(black_box(state), &mut table));
+            added(sum, &answer, &table)
+        })
+    };
     by_turns(count, [&mut compiled, &mut by_words, &mut native])
 }
