@@ -1,5 +1,5 @@
 #!/usr/bin/env bash
-# Lists a plan, flies a simulated aircraft along it to its end, and draws the flight.
+# Lists a plan, flies a simulated aircraft along it to its end, with the metres to go at the start and at the end, and draws the flight.
 #   example/flight.sh [PLAN [PICTURE]]    without them samples/fillets.wpl and target/flight.svg
 # The first run proves the crates that it needs and builds the command farnkuppel; later ones take about a second. Needs the Rattle toolchain (rt),
 # cargo and objcopy (binutils). Exit status: 0 drawn; 1 the plan is refused, or a crate is not proved; 2 usage or file trouble.
@@ -49,12 +49,21 @@ fi
 cargo build --manifest-path "$root/host/Cargo.toml" --offline --release --quiet -p farnkuppel || stop "the command farnkuppel could not be built"
 
 "$farnkuppel" list -- "$plan"
+left=$("$farnkuppel" distance -- "$plan")
+
+# When, and the index that the aircraft has then.
+to_go() {
+    echo "to go $1, on the leg to point $2: $(sed -n "s/^$2 //p" <<< "$left") m from the start of that leg to the last point"
+}
+
 fixes=${at}target/flight.fixes
 flown=${at}target/flight.txt
 "$farnkuppel" simulate -- "$plan" "$fixes"
 "$farnkuppel" fly -- "$plan" "$fixes" > "$flown"
+to_go "at the start" 2
 head -n 4 "$flown"
 echo ...
 tail -n 2 "$flown"
+to_go "at the end" "$(sed -n '$s/.* index \([0-9]*\) phase .*/\1/p' "$flown")"
 "$farnkuppel" draw -- "$plan" "$fixes" "$picture"
 echo "the command is ${at}host/target/release/farnkuppel; its --help says what else it does"

@@ -2,8 +2,9 @@
  *
  *     follow PLAN
  *
- * The aircraft keeps its speed and turns at a limited rate toward the heading that each fix is answered. A line a second goes to standard
- * output: seconds, north, east and down in metres, heading in degrees, index and phase; then one line on how the flight ended. */
+ * The aircraft keeps its speed and turns at a limited rate toward the heading that each fix is answered. To standard output goes a line with the
+ * metres to go at the start; then a line a second: seconds, north, east and down in metres, heading in degrees, index and phase; then one line on
+ * how the flight ended. */
 #include "farnkuppel.h"
 
 #include <inttypes.h>
@@ -55,6 +56,15 @@ static struct aircraft over_first_point(const int32_t *state)
     struct aircraft plane = {first.north / 10.0, first.east / 10.0, first.down / 10.0, 0};
     plane.heading = atan2(second.east - first.east, second.north - first.north);
     return plane;
+}
+
+/* How far is left from the start of the leg that is flown: of a plan that was just loaded, all of it. */
+static void show_left(const int32_t *state)
+{
+    uint32_t answer[FARNKUPPEL_DISTANCE_WORDS];
+    farnkuppel_distance(state, FARNKUPPEL_STATE_WORDS, answer, FARNKUPPEL_DISTANCE_WORDS);
+    struct farnkuppel_distance_left left = farnkuppel_distance_left_of(answer, FARNKUPPEL_DISTANCE_WORDS);
+    printf("%" PRIu32 ".%" PRIu32 " metres to go\n", left.decimetres / 10, left.decimetres % 10);
 }
 
 static void show(unsigned seconds, const struct aircraft *plane, const struct farnkuppel_answer *answer)
@@ -137,5 +147,6 @@ int main(int count, char **words)
         printf("refused %" PRIu32 " at %" PRIu32 ": %s\n", refusal, answer[FARNKUPPEL_LOAD_PLACE], farnkuppel_refusal_name(refusal));
         return 1;
     }
+    show_left(state);
     return follow(state);
 }

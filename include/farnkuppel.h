@@ -1,7 +1,7 @@
 /* The path manager, for C99 and C++.
  *
- * libautopilot.a has load, fix and write; libdesk.a has the refusal of a file, its notes, and the strips of a plan. tools/archives makes both, in
- * target/staticlib, and tools/install puts them with this header under a prefix.
+ * libautopilot.a has load, fix, write and the distance to go; libdesk.a has the refusal of a file, its notes, and the strips of a plan.
+ * tools/archives makes both, in target/staticlib, and tools/install puts them with this header under a prefix.
  *
  * Both are for x86-64 under Linux, by the System V calling convention. They need memset, as the C library has it, and no other symbol.
  *
@@ -13,7 +13,7 @@
  * command or a note's buffer that is shorter than it has to be is refused FARNKUPPEL_REFUSED_MISFIT before anything else is looked at, and then
  * nothing at all is written. A slice may be longer: the rest of it stays as it is. Slices of one call must not overlap.
  * The pointer may be NULL where the length is 0. Such a slice is answered as any other of that length: as a state, an answer, a command or a
- * note's buffer it is too short, as a file that is read it has under 11 bytes, and as a file that is written it has no room. */
+ * note's buffer it is too short, as a file that is read it has under 11 bytes, and as a file or a table that is written it has no room. */
 #ifndef FARNKUPPEL_H
 #define FARNKUPPEL_H
 
@@ -26,7 +26,7 @@ extern "C" {
 
 /* The release of the whole, archives, programs and pages: the only place of its number. CHANGELOG.md says what the three numbers mean and what each
  * release brought. The number of the interface is another thing, and most releases keep it. */
-#define FARNKUPPEL_RELEASE "2.2.0"
+#define FARNKUPPEL_RELEASE "2.3.0"
 
 /* The number of this interface. It grows whenever a word moves or a function changes; the first interface had none. An archive answers its own by
  * farnkuppel_interface: where that is another number, nothing below holds of the archive. */
@@ -54,6 +54,9 @@ extern "C" {
 /* The most bytes that a note has. */
 #define FARNKUPPEL_NOTE_BYTES 32
 
+/* The entries of a table of distances for the longest plan: one for each index, counted from 0. A table of this length has room for every plan. */
+#define FARNKUPPEL_TABLE_ENTRIES 65
+
 /* A fix is in metres and lies from minus to plus this, both included: north and east, and down. */
 #define FARNKUPPEL_FIX_LEVEL 50000
 #define FARNKUPPEL_FIX_DOWN 10000
@@ -64,6 +67,8 @@ extern "C" {
 #define FARNKUPPEL_STACK_LOAD 560
 #define FARNKUPPEL_STACK_FIX 1328
 #define FARNKUPPEL_STACK_WRITE 624
+#define FARNKUPPEL_STACK_DISTANCES 576
+#define FARNKUPPEL_STACK_DISTANCE 576
 #define FARNKUPPEL_STACK_REFUSAL 1632
 #define FARNKUPPEL_STACK_CHECK 1632
 #define FARNKUPPEL_STACK_NOTE 1664
@@ -76,7 +81,8 @@ extern "C" {
 /* A row for each refusal: its number, its name and the same in words; above the row when it is given, and the place that the answer has with it,
  * 0 where none is named. The first that applies is given. A load looks at the reader's version, then in the order of the numbers, at the records
  * one after the other for 6 and 7 and at the legs for 12 and 17; what is said of a load holds of farnkuppel_check too, and of farnkuppel_refusal,
- * which has no place. A fix looks for 14, 15, 13, a write for 14, 3, 7, 16, a check for strips for 14, 18. */
+ * which has no place. A fix looks for 14, 15, 13, a write for 14, 3, 7, 16, a check for strips for 14, 18, a table of distances for 14, 16, and
+ * the distance at a state for 14. */
 #define FARNKUPPEL_REFUSALS(ROW) \
     /* A load: the file has under 11 bytes. */ \
     ROW(1, FILE_TOO_SHORT, "file shorter than its header") \
@@ -107,12 +113,12 @@ extern "C" {
     ROW(12, SHORT_LEG, "leg too short for its turns") \
     /* A fix: a number is NaN or infinite, or beyond the ranges above. */ \
     ROW(13, NO_POSITION, "position out of range or not a number") \
-    /* A fix, a write or a check for strips: the words hold no state, or one that breaks a rule. */ \
+    /* A fix, a write, a check for strips or a question for a distance: the words hold no state, or one that breaks a rule. */ \
     ROW(14, NO_STATE, "state is empty or breaks a rule") \
     /* A fix: the serial that it names is not the state's. */ \
     ROW(15, OTHER_SERIAL, "serial of another plan") \
-    /* A write: the buffer is shorter than the file. */ \
-    ROW(16, NO_ROOM, "no room for the file") \
+    /* A write: the buffer is shorter than the file. A table of distances: it has under N + 1 entries, of a plan of N points. */ \
+    ROW(16, NO_ROOM, "no room for the file or the table") \
     /* A load: there is no Dubins path for a leg. Place: the leg's end point, from 1. */ \
     ROW(17, NO_CASE, "no Dubins path for a leg") \
     /* A check for strips, and never a load: a strip breaks a rule. Place: the first strip that does, from 1. \
@@ -168,7 +174,7 @@ static inline const char *farnkuppel_refusal_name(uint32_t number)
  * The index is the number of the point that is flown to, from 2 to the count in every mode. Finished is set by a fix at the last point or past it
  * (lines: in three dimensions, fillets: in north and east, along the last leg; Dubins: along the last course), and then stays set. It is 1 only
  * at the last index and phase: the count and 1 in lines and fillets, the count and 5 in Dubins plans.
- * The empty state, which a refused load leaves, is all 0; a fix, a write or a check for strips on it is refused.
+ * The empty state, which a refused load leaves, is all 0; a fix, a write, a check for strips or a question for a distance on it is refused.
  * Words that hold anything else are refused FARNKUPPEL_REFUSED_NO_STATE. Words that an archive of another interface filled are no state here,
  * even where they are not refused: load the plan again. */
 #define FARNKUPPEL_STATE_WORDS 263
@@ -196,6 +202,17 @@ static inline const char *farnkuppel_refusal_name(uint32_t number)
 #define FARNKUPPEL_WRITE_REFUSAL 0
 #define FARNKUPPEL_WRITE_PLACE 1
 #define FARNKUPPEL_WRITE_LENGTH 2      /* of the file; 0 where the write is refused */
+
+/* To a question for a table of distances. */
+#define FARNKUPPEL_DISTANCES_WORDS 2
+#define FARNKUPPEL_DISTANCES_REFUSAL 0
+#define FARNKUPPEL_DISTANCES_PLACE 1   /* 0 for every table */
+
+/* To a question for the distance at a state. */
+#define FARNKUPPEL_DISTANCE_WORDS 3
+#define FARNKUPPEL_DISTANCE_REFUSAL 0
+#define FARNKUPPEL_DISTANCE_PLACE 1    /* 0 for every state */
+#define FARNKUPPEL_DISTANCE_LEFT 2     /* decimetres to go; 0 where the question is refused */
 
 /* To a check: what a load by that reader has there. */
 #define FARNKUPPEL_CHECK_WORDS 2
@@ -339,6 +356,22 @@ static inline struct farnkuppel_command farnkuppel_command_of(const uint32_t *an
     return found;
 }
 
+/* The answer to a question for the distance at a state. */
+struct farnkuppel_distance_left {
+    uint32_t refusal; /* FARNKUPPEL_REFUSED_MISFIT where there are too few words, so that these never look accepted */
+    uint32_t decimetres;
+};
+
+static inline struct farnkuppel_distance_left farnkuppel_distance_left_of(const uint32_t *answer, size_t answer_length)
+{
+    struct farnkuppel_distance_left found = {FARNKUPPEL_REFUSED_MISFIT, 0};
+    if (answer_length >= FARNKUPPEL_DISTANCE_WORDS) {
+        found.refusal = answer[FARNKUPPEL_DISTANCE_REFUSAL];
+        found.decimetres = answer[FARNKUPPEL_DISTANCE_LEFT];
+    }
+    return found;
+}
+
 /* The answer to a check for strips. */
 struct farnkuppel_strip_check {
     uint32_t refusal; /* FARNKUPPEL_REFUSED_MISFIT where there are too few words, so that these never look accepted */
@@ -459,6 +492,21 @@ uint32_t farnkuppel_fix(int32_t *state, size_t state_length, uint32_t serial, fl
  * write is refused, and the first FARNKUPPEL_WRITE_WORDS of `answer`. */
 uint32_t farnkuppel_write(const int32_t *state, size_t state_length, uint32_t version, uint8_t *file, size_t file_length, uint32_t *answer,
                           size_t answer_length);
+
+/* The distance to go from each index of the plan of a state on, in decimetres: entry i of `table`, counted from 0, is the length of the leg to
+ * point i and of all that follows, to the last point. Lines are measured in north and east. In fillets a leg is as long as its straight part, short
+ * of the circles at both of its ends, and the arc at each corner from point i on counts; the arc at point i - 1 does not. In Dubins plans each leg has
+ * its arcs. Each root and each arc is rounded down. How far the plan is flown does not matter, so that a table that is made after the load holds for
+ * the whole flight.
+ * Reads `state`; writes the entries 2 to the count of points of `table`, and no other, or nothing of it where the question is refused; and the first
+ * FARNKUPPEL_DISTANCES_WORDS of `answer`. */
+uint32_t farnkuppel_distances(const int32_t *state, size_t state_length, uint32_t *table, size_t table_length, uint32_t *answer,
+                              size_t answer_length);
+
+/* The distance to go from the index of a state on, in decimetres, without a table: the entry that a table has at that index. It is that of the whole
+ * leg that is flown, wherever on it the aircraft is, and of the last leg once the flight is finished. It can be 0 where that is not refused: the
+ * circle at a fillet corner can take the whole of the last leg. Reads `state`; writes the first FARNKUPPEL_DISTANCE_WORDS of `answer`. */
+uint32_t farnkuppel_distance(const int32_t *state, size_t state_length, uint32_t *answer, size_t answer_length);
 
 /* ---- in libdesk.a */
 

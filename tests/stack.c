@@ -45,6 +45,8 @@ __asm__(".text\n"
         PAINTED("load")
         PAINTED("fix")
         PAINTED("write")
+        PAINTED("distances")
+        PAINTED("distance")
 #endif
 );
 
@@ -52,6 +54,8 @@ uint32_t painted_interface(void);
 uint32_t painted_load(const uint8_t *, size_t, uint32_t, int32_t *, size_t, uint32_t *, size_t);
 uint32_t painted_fix(int32_t *, size_t, uint32_t, float, float, float, uint32_t *, size_t, float *, size_t);
 uint32_t painted_write(const int32_t *, size_t, uint32_t, uint8_t *, size_t, uint32_t *, size_t);
+uint32_t painted_distances(const int32_t *, size_t, uint32_t *, size_t, uint32_t *, size_t);
+uint32_t painted_distance(const int32_t *, size_t, uint32_t *, size_t);
 uint32_t painted_refusal(const uint8_t *, size_t, uint32_t);
 uint32_t painted_check(const uint8_t *, size_t, uint32_t, uint32_t *, size_t);
 uint32_t painted_notes(const uint8_t *, size_t, uint32_t *, size_t);
@@ -241,7 +245,7 @@ static void print_depths(void)
 
 #else
 
-static size_t load_depth, fix_depth, write_depth;
+static size_t load_depth, fix_depth, write_depth, distances_depth, distance_depth;
 
 struct flight {
     int32_t state[FARNKUPPEL_STATE_WORDS];
@@ -270,6 +274,15 @@ static void write_plan(const int32_t *state, uint32_t version, size_t room)
     SEE(write_depth, painted_write(state, 0, version, file, room, answer, FARNKUPPEL_WRITE_WORDS))
 }
 
+static void ask_distance(const int32_t *state, size_t entries)
+{
+    uint32_t table[FARNKUPPEL_TABLE_ENTRIES], answer[FARNKUPPEL_DISTANCE_WORDS];
+    SEE(distances_depth, painted_distances(state, FARNKUPPEL_STATE_WORDS, table, entries, answer, FARNKUPPEL_DISTANCES_WORDS))
+    SEE(distances_depth, painted_distances(state, 0, table, entries, answer, FARNKUPPEL_DISTANCES_WORDS))
+    SEE(distance_depth, painted_distance(state, FARNKUPPEL_STATE_WORDS, answer, FARNKUPPEL_DISTANCE_WORDS))
+    SEE(distance_depth, painted_distance(state, FARNKUPPEL_STATE_WORDS, answer, 0))
+}
+
 static uint32_t load(const uint8_t *file, size_t length, uint32_t reader, int32_t *state)
 {
     uint32_t answer[FARNKUPPEL_LOAD_WORDS], result = 0;
@@ -286,6 +299,7 @@ static void use(const uint8_t *file, size_t length)
     load(file, length, FARNKUPPEL_NEWEST, state);
     fix(state, (uint32_t)state[FARNKUPPEL_STATE_SERIAL], here, answer);
     write_plan(state, FARNKUPPEL_NEWEST, FARNKUPPEL_WRITTEN_BYTES);
+    ask_distance(state, FARNKUPPEL_TABLE_ENTRIES);
 }
 
 /* An aircraft that heads where it is told, with fixes on the way that are refused. */
@@ -303,6 +317,7 @@ static void fly(const int32_t *start, float metres)
             fix(flight.state, serial + 1, flight.position, answer);
             fix(flight.state, serial, nowhere, answer);
             write_plan(flight.state, FARNKUPPEL_NEWEST, FARNKUPPEL_WRITTEN_BYTES);
+            ask_distance(flight.state, FARNKUPPEL_TABLE_ENTRIES);
         }
         double angle = flight.heading * 6.283185307179586 / FARNKUPPEL_CIRCLE;
         flight.position[0] += metres * (float)cos(angle);
@@ -315,6 +330,7 @@ static void use_state(int32_t *state, uint32_t serial)
     const float here[3] = {12.5f, -3, 40};
     uint32_t answer[FARNKUPPEL_ANSWER_WORDS];
     write_plan(state, FARNKUPPEL_NEWEST, FARNKUPPEL_WRITTEN_BYTES);
+    ask_distance(state, FARNKUPPEL_TABLE_ENTRIES);
     fix(state, serial, here, answer);
 }
 
@@ -327,6 +343,7 @@ static void use_whole(const struct plan *plan)
         write_plan(state, version, FARNKUPPEL_WRITTEN_BYTES);
         write_plan(state, version, 20);
     }
+    ask_distance(state, FARNKUPPEL_FEWEST_POINTS);
     fly(state, 8);
     fly(state, 40);
     spoil(state);
@@ -335,6 +352,7 @@ static void use_whole(const struct plan *plan)
 static void print_depths(void)
 {
     printf("farnkuppel_load %zu\nfarnkuppel_fix %zu\nfarnkuppel_write %zu\n", load_depth, fix_depth, write_depth);
+    printf("farnkuppel_distances %zu\nfarnkuppel_distance %zu\n", distances_depth, distance_depth);
 }
 
 #endif

@@ -22,6 +22,7 @@ SAME(FARNKUPPEL_MOST_POINTS, 64);
 SAME(FARNKUPPEL_FILE_BYTES, 8203);
 SAME(FARNKUPPEL_WRITTEN_BYTES, 1167);
 SAME(FARNKUPPEL_NOTE_BYTES, 32);
+SAME(FARNKUPPEL_TABLE_ENTRIES, 65);
 SAME(FARNKUPPEL_FIX_LEVEL, 50000);
 SAME(FARNKUPPEL_FIX_DOWN, 10000);
 
@@ -30,6 +31,8 @@ SAME(FARNKUPPEL_STACK_INTERFACE, 8);
 SAME(FARNKUPPEL_STACK_LOAD, 560);
 SAME(FARNKUPPEL_STACK_FIX, 1328);
 SAME(FARNKUPPEL_STACK_WRITE, 624);
+SAME(FARNKUPPEL_STACK_DISTANCES, 576);
+SAME(FARNKUPPEL_STACK_DISTANCE, 576);
 SAME(FARNKUPPEL_STACK_REFUSAL, 1632);
 SAME(FARNKUPPEL_STACK_CHECK, 1632);
 SAME(FARNKUPPEL_STACK_NOTE, 1664);
@@ -94,6 +97,13 @@ SAME(FARNKUPPEL_WRITE_WORDS, 3);
 SAME(FARNKUPPEL_WRITE_REFUSAL, 0);
 SAME(FARNKUPPEL_WRITE_PLACE, 1);
 SAME(FARNKUPPEL_WRITE_LENGTH, 2);
+SAME(FARNKUPPEL_DISTANCES_WORDS, 2);
+SAME(FARNKUPPEL_DISTANCES_REFUSAL, 0);
+SAME(FARNKUPPEL_DISTANCES_PLACE, 1);
+SAME(FARNKUPPEL_DISTANCE_WORDS, 3);
+SAME(FARNKUPPEL_DISTANCE_REFUSAL, 0);
+SAME(FARNKUPPEL_DISTANCE_PLACE, 1);
+SAME(FARNKUPPEL_DISTANCE_LEFT, 2);
 SAME(FARNKUPPEL_CHECK_WORDS, 2);
 SAME(FARNKUPPEL_CHECK_REFUSAL, 0);
 SAME(FARNKUPPEL_CHECK_PLACE, 1);
@@ -157,11 +167,13 @@ static int32_t state[264];
 static uint32_t answer[9];
 static float command[7];
 static uint8_t written[1168];
+static uint32_t table[66];
 
 static void mark_ends(void)
 {
     state[263] = -77;
     memset(answer, 0x77, sizeof answer);
+    memset(table, 0x77, sizeof table);
     for (int i = 0; i < 7; i++)
         command[i] = -77;
 }
@@ -187,6 +199,23 @@ static uint32_t write_at(uint32_t version, size_t room)
 {
     mark_ends();
     uint32_t result = farnkuppel_write(state, 264, version, written, room, answer, 9);
+    HOLD(answer[3] == 0x77777777 && answer[0] == result && answer[1] == 0);
+    return result;
+}
+
+static uint32_t table_in(size_t entries)
+{
+    mark_ends();
+    uint32_t result = farnkuppel_distances(state, 264, table, entries, answer, 9);
+    HOLD(answer[2] == 0x77777777 && answer[0] == result && answer[1] == 0);
+    HOLD(table[0] == 0x77777777 && table[1] == 0x77777777 && table[65] == 0x77777777);
+    return result;
+}
+
+static uint32_t distance_left(void)
+{
+    mark_ends();
+    uint32_t result = farnkuppel_distance(state, 264, answer, 9);
     HOLD(answer[3] == 0x77777777 && answer[0] == result && answer[1] == 0);
     return result;
 }
@@ -401,6 +430,21 @@ static void counts_and_lengths(void)
     HOLD(write_at(4, 1168) == 3 && answer[2] == 0);
 }
 
+/* 64 points 1000 apart need a table of 65 entries. */
+static void distances(void)
+{
+    row(64);
+    loads(3);
+    HOLD(table_in(64) == 16 && table[2] == 0x77777777 && table[64] == 0x77777777);
+    HOLD(table_in(65) == 0 && table[2] == 63000 && table[3] == 62000 && table[64] == 1000);
+    HOLD(table_in(66) == 0 && table[2] == 63000 && table[64] == 1000);
+    HOLD(distance_left() == 0 && answer[2] == 63000);
+    state[4] = 64;
+    HOLD(distance_left() == 0 && answer[2] == 1000);
+    state[4] = 65;
+    HOLD(table_in(66) == 14 && table[2] == 0x77777777 && distance_left() == 14 && answer[2] == 0);
+}
+
 static void fixes_that_are_refused(void)
 {
     corner(0, 2000);
@@ -429,6 +473,12 @@ static void slices(void)
     HOLD(farnkuppel_write(state, 263, 1, written, 53, answer, 3) == 0);
     HOLD(farnkuppel_write(state, 262, 1, written, 53, answer, 3) == 100);
     HOLD(farnkuppel_write(state, 263, 1, written, 53, answer, 2) == 100);
+    HOLD(farnkuppel_distances(state, 263, table, 4, answer, 2) == 0);
+    HOLD(farnkuppel_distances(state, 262, table, 4, answer, 2) == 100);
+    HOLD(farnkuppel_distances(state, 263, table, 4, answer, 1) == 100);
+    HOLD(farnkuppel_distance(state, 263, answer, 3) == 0);
+    HOLD(farnkuppel_distance(state, 262, answer, 3) == 100);
+    HOLD(farnkuppel_distance(state, 263, answer, 2) == 100);
 }
 
 int main(void)
@@ -441,6 +491,7 @@ int main(void)
     headers_that_are_refused();
     records_that_are_refused();
     counts_and_lengths();
+    distances();
     fixes_that_are_refused();
     slices();
     return failures ? 1 : 0;

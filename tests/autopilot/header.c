@@ -74,6 +74,25 @@ static uint32_t write_plan(const int32_t *state, size_t room, uint32_t *written)
     return result;
 }
 
+static uint32_t distance(const int32_t *state, uint32_t *left)
+{
+    uint32_t answer[FARNKUPPEL_DISTANCE_WORDS];
+    uint32_t result = farnkuppel_distance(state, FARNKUPPEL_STATE_WORDS, answer, FARNKUPPEL_DISTANCE_WORDS);
+    HOLD(result == answer[FARNKUPPEL_DISTANCE_REFUSAL]);
+    HOLD(answer[FARNKUPPEL_DISTANCE_PLACE] == 0);
+    *left = answer[FARNKUPPEL_DISTANCE_LEFT];
+    return result;
+}
+
+static uint32_t make_table(const int32_t *state, uint32_t *table, size_t entries)
+{
+    uint32_t answer[FARNKUPPEL_DISTANCES_WORDS];
+    uint32_t result = farnkuppel_distances(state, FARNKUPPEL_STATE_WORDS, table, entries, answer, FARNKUPPEL_DISTANCES_WORDS);
+    HOLD(result == answer[FARNKUPPEL_DISTANCES_REFUSAL]);
+    HOLD(answer[FARNKUPPEL_DISTANCES_PLACE] == 0);
+    return result;
+}
+
 /* ---- facts */
 
 static void words_of_a_state(void)
@@ -163,13 +182,15 @@ static void ranges_of_a_fix(void)
 static void no_state(int place, int32_t value)
 {
     struct flight flight;
-    uint32_t written;
+    uint32_t written, left, table[FARNKUPPEL_TABLE_ENTRIES] = {UNTOUCHED, UNTOUCHED, UNTOUCHED};
     int before = failures;
     corner(FARNKUPPEL_MODE_DUBINS);
     HOLD(load(&flight) == FARNKUPPEL_ACCEPTED);
     flight.state[place] = value;
     refused(&flight, FARNKUPPEL_REFUSED_NO_STATE, 0, 0, 0);
     HOLD(write_plan(flight.state, FARNKUPPEL_WRITTEN_BYTES, &written) == FARNKUPPEL_REFUSED_NO_STATE && written == 0);
+    HOLD(distance(flight.state, &left) == FARNKUPPEL_REFUSED_NO_STATE && left == 0);
+    HOLD(make_table(flight.state, table, FARNKUPPEL_TABLE_ENTRIES) == FARNKUPPEL_REFUSED_NO_STATE && table[2] == UNTOUCHED);
     if (failures > before)
         printf("header.c: with word %d as %" PRId32 "\n", place, value);
 }
@@ -217,6 +238,23 @@ static void longest_files(void)
     put(0, 1);
     close_area();
     HOLD(load(&flight) == FARNKUPPEL_REFUSED_WRONG_AREA);
+}
+
+/* The longest plan needs the longest table, and its distance is the entry at its index. */
+static void longest_table(void)
+{
+    struct flight flight;
+    uint32_t left, table[FARNKUPPEL_TABLE_ENTRIES];
+    begin(FARNKUPPEL_NEWEST, SERIAL);
+    for (int i = 0; i < FARNKUPPEL_MOST_POINTS; i++)
+        point(1000 * i, 0, 0);
+    close_area();
+    HOLD(load(&flight) == FARNKUPPEL_ACCEPTED);
+    HOLD(make_table(flight.state, table, FARNKUPPEL_TABLE_ENTRIES - 1) == FARNKUPPEL_REFUSED_NO_ROOM);
+    HOLD(make_table(flight.state, table, FARNKUPPEL_TABLE_ENTRIES) == FARNKUPPEL_ACCEPTED);
+    HOLD(table[2] == 63000 && table[FARNKUPPEL_MOST_POINTS] == 1000);
+    HOLD(fix(&flight, 100, 0, 0) == FARNKUPPEL_ACCEPTED && flight.state[FARNKUPPEL_STATE_INDEX] == 3);
+    HOLD(distance(flight.state, &left) == FARNKUPPEL_ACCEPTED && left == 62000 && left == table[3]);
 }
 
 /* A point more than a plan may have, and one less. */
@@ -267,6 +305,21 @@ static void null_to_fix_and_write(void)
     HOLD(flight.answer[FARNKUPPEL_WRITE_REFUSAL] == FARNKUPPEL_REFUSED_NO_ROOM && flight.answer[FARNKUPPEL_WRITE_LENGTH] == 0);
 }
 
+static void null_to_distances(void)
+{
+    enum { STATES = FARNKUPPEL_STATE_WORDS, ENTRIES = FARNKUPPEL_TABLE_ENTRIES };
+    struct flight flight;
+    uint32_t table[ENTRIES] = {UNTOUCHED, UNTOUCHED, UNTOUCHED}, answer[FARNKUPPEL_DISTANCE_WORDS] = {UNTOUCHED};
+    corner(FARNKUPPEL_MODE_LINES);
+    HOLD(load(&flight) == FARNKUPPEL_ACCEPTED);
+    HOLD(farnkuppel_distances(NULL, 0, table, ENTRIES, answer, FARNKUPPEL_DISTANCES_WORDS) == FARNKUPPEL_REFUSED_MISFIT);
+    HOLD(farnkuppel_distances(flight.state, STATES, table, ENTRIES, NULL, 0) == FARNKUPPEL_REFUSED_MISFIT);
+    HOLD(farnkuppel_distance(NULL, 0, answer, FARNKUPPEL_DISTANCE_WORDS) == FARNKUPPEL_REFUSED_MISFIT);
+    HOLD(farnkuppel_distance(flight.state, STATES, NULL, 0) == FARNKUPPEL_REFUSED_MISFIT);
+    HOLD(table[2] == UNTOUCHED && answer[0] == UNTOUCHED);
+    HOLD(make_table(flight.state, NULL, 0) == FARNKUPPEL_REFUSED_NO_ROOM);
+}
+
 int main(void)
 {
     HOLD(farnkuppel_interface() == FARNKUPPEL_INTERFACE);
@@ -276,8 +329,10 @@ int main(void)
     ranges_of_a_fix();
     words_that_hold_no_state();
     longest_files();
+    longest_table();
     counts();
     null_to_load();
     null_to_fix_and_write();
+    null_to_distances();
     return failures ? 1 : 0;
 }

@@ -196,6 +196,21 @@ static void commands(void)
     }
 }
 
+/* ---- distances */
+
+static void distances_left(void)
+{
+    for (size_t length = 0; length <= 4; length++) {
+        uint32_t *words = answer_of_length(length, 202, 203);
+        struct farnkuppel_distance_left left = farnkuppel_distance_left_of(words, length);
+        if (length < 3)
+            HOLD(left.refusal == 100 && left.decimetres == 0);
+        else
+            HOLD(left.refusal == 200 && left.decimetres == 202);
+        free(words);
+    }
+}
+
 /* ---- strips */
 
 static void strip_checks(void)
@@ -283,6 +298,7 @@ int main(void)
     refusals_in_words();
     answers();
     commands();
+    distances_left();
     strip_checks();
     strip_rows();
     states();
