@@ -8,7 +8,7 @@
 #define WORD sizeof(uint32_t)
 
 static const uint8_t first = 0x5A, second = 0xA5;
-static struct lent file_memory, state_memory, answer_memory, bytes_memory;
+static struct lent file_memory, state_memory, answer_memory, bytes_memory, table_memory;
 
 void prepare(void)
 {
@@ -16,6 +16,7 @@ void prepare(void)
     state_memory = lent_for(STATE_BYTES + SPARE * WORD);
     answer_memory = lent_for((FARNKUPPEL_ANSWER_WORDS + SPARE) * WORD);
     bytes_memory = lent_for(MOST_ROOM + SPARE);
+    table_memory = lent_for(FARNKUPPEL_TABLE_ENTRIES * WORD);
     HOLD(farnkuppel_interface() == FARNKUPPEL_INTERFACE);
 }
 
@@ -188,6 +189,64 @@ static void take_state(const int32_t *from, size_t states, uint8_t fill)
     HOLD(memcmp(state_memory.end - states * WORD, from, STATE_BYTES) == 0);
 }
 
+/* A table comes back: what was written of it is the entries 2 to so many, and a refused question writes none. */
+static void take_table(const uint32_t *table, size_t entries, size_t last, uint8_t fill, uint32_t *got)
+{
+    HOLD(last == 0 || (last >= 2 && last < entries));
+    take_back(&table_memory, entries * WORD, last ? (last + 1) * WORD : 0, fill);
+    if (last == 0)
+        return;
+    HOLD(table[0] == fill * 0x01010101u && table[1] == fill * 0x01010101u);
+    memcpy(got + 2, table + 2, (last - 1) * WORD);
+}
+
+static void distances_once(const int32_t *from, size_t entries, size_t spare, uint8_t fill, struct distances *got)
+{
+    size_t states = FARNKUPPEL_STATE_WORDS + spare, answers = FARNKUPPEL_DISTANCES_WORDS + spare;
+    int32_t *state = lend_state(from, states, fill);
+    uint32_t *table = lend(&table_memory, entries * WORD, fill);
+    uint32_t *answer = lend(&answer_memory, answers * WORD, fill);
+    memset(got, 0, sizeof *got);
+    got->result = farnkuppel_distances(state, states, table, entries, answer, answers);
+    take_state(from, states, fill);
+    take_table(table, entries, got->result == FARNKUPPEL_ACCEPTED ? (size_t)from[FARNKUPPEL_STATE_COUNT] : 0, fill, got->table);
+    take_back(&answer_memory, answers * WORD, sizeof got->answer, fill);
+    memcpy(got->answer, answer, sizeof got->answer);
+}
+
+struct distances distances_of(const int32_t *state, size_t entries)
+{
+    struct distances got, again;
+    distances_once(state, entries, 0, first, &got);
+    distances_once(state, entries, SPARE, second, &again);
+    HOLD(memcmp(&got, &again, sizeof got) == 0);
+    HOLD(got.result == got.answer[FARNKUPPEL_DISTANCES_REFUSAL]);
+    HOLD(got.answer[FARNKUPPEL_DISTANCES_PLACE] == 0);
+    return got;
+}
+
+static void distance_once(const int32_t *from, size_t spare, uint8_t fill, struct distance *got)
+{
+    size_t states = FARNKUPPEL_STATE_WORDS + spare, answers = FARNKUPPEL_DISTANCE_WORDS + spare;
+    int32_t *state = lend_state(from, states, fill);
+    uint32_t *answer = lend(&answer_memory, answers * WORD, fill);
+    got->result = farnkuppel_distance(state, states, answer, answers);
+    take_state(from, states, fill);
+    take_back(&answer_memory, answers * WORD, sizeof got->answer, fill);
+    memcpy(got->answer, answer, sizeof got->answer);
+}
+
+struct distance distance_of(const int32_t *state)
+{
+    struct distance got, again;
+    distance_once(state, 0, first, &got);
+    distance_once(state, SPARE, second, &again);
+    HOLD(memcmp(&got, &again, sizeof got) == 0);
+    HOLD(got.result == got.answer[FARNKUPPEL_DISTANCE_REFUSAL]);
+    HOLD(got.answer[FARNKUPPEL_DISTANCE_PLACE] == 0);
+    return got;
+}
+
 static void strips_once(const int32_t *from, size_t spare, uint8_t fill, struct strips *got)
 {
     size_t states = FARNKUPPEL_STATE_WORDS + spare, answers = FARNKUPPEL_STRIPS_WORDS + spare;
@@ -262,6 +321,10 @@ static uint32_t call_short(int call, const uint8_t *file, size_t length, struct 
         result = farnkuppel_strips(state, n.state, answer, n.answer);
     if (call == 7)
         result = farnkuppel_strip(state, n.state, 1, answer, n.answer);
+    if (call == 8)
+        result = farnkuppel_distances(state, n.state, bytes, n.bytes, answer, n.answer);
+    if (call == 9)
+        result = farnkuppel_distance(state, n.state, answer, n.answer);
     take_back(&state_memory, n.state * WORD, 0, first);
     take_back(&answer_memory, n.answer * WORD, 0, first);
     take_back(&bytes_memory, n.bytes * element, 0, first);
@@ -271,11 +334,13 @@ static uint32_t call_short(int call, const uint8_t *file, size_t length, struct 
 void short_slices(struct file file, size_t cut)
 {
     const size_t states = FARNKUPPEL_STATE_WORDS, numbers = FARNKUPPEL_COMMAND_NUMBERS, room = FARNKUPPEL_NOTE_BYTES;
-    const size_t answers[] = {FARNKUPPEL_LOAD_WORDS,  FARNKUPPEL_ANSWER_WORDS, FARNKUPPEL_WRITE_WORDS,  FARNKUPPEL_NOTE_WORDS,
-                              FARNKUPPEL_CHECK_WORDS, FARNKUPPEL_NOTES_WORDS,  FARNKUPPEL_STRIPS_WORDS, FARNKUPPEL_STRIP_WORDS};
-    const size_t elements[] = {1, sizeof(float), 1, 1, 1, 1, 1, 1}, lengths[] = {0, numbers, MOST_ROOM, room, 0, 0, 0, 0};
+    const size_t answers[] = {FARNKUPPEL_LOAD_WORDS,      FARNKUPPEL_ANSWER_WORDS,  FARNKUPPEL_WRITE_WORDS,  FARNKUPPEL_NOTE_WORDS,
+                              FARNKUPPEL_CHECK_WORDS,     FARNKUPPEL_NOTES_WORDS,   FARNKUPPEL_STRIPS_WORDS, FARNKUPPEL_STRIP_WORDS,
+                              FARNKUPPEL_DISTANCES_WORDS, FARNKUPPEL_DISTANCE_WORDS};
+    const size_t elements[] = {1, sizeof(float), 1, 1, 1, 1, 1, 1, WORD, 1};
+    const size_t lengths[] = {0, numbers, MOST_ROOM, room, 0, 0, 0, 0, FARNKUPPEL_TABLE_ENTRIES, 0};
     uint8_t *bytes = lend_copy(&file_memory, file.bytes, file.length);
-    for (int call = 0; call < 8; call++) {
+    for (int call = 0; call < 10; call++) {
         struct lengths short_answer = {states, less(answers[call], cut), lengths[call]};
         struct lengths short_state = {less(states, cut), answers[call], lengths[call]};
         struct lengths short_bytes = {states, answers[call], less(lengths[call], cut)};

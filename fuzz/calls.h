@@ -39,6 +39,17 @@ struct written {
     uint8_t bytes[MOST_ROOM];
 };
 
+struct distances {
+    uint32_t result;
+    uint32_t answer[FARNKUPPEL_DISTANCES_WORDS];
+    uint32_t table[FARNKUPPEL_TABLE_ENTRIES]; /* 0 where nothing was written */
+};
+
+struct distance {
+    uint32_t result;
+    uint32_t answer[FARNKUPPEL_DISTANCE_WORDS];
+};
+
 struct strips {
     uint32_t result;
     uint32_t answer[FARNKUPPEL_STRIPS_WORDS];
@@ -62,6 +73,10 @@ struct fix fix_of(const int32_t *state, uint32_t serial, const float *position);
 
 /* Into `room` bytes, at most MOST_ROOM. */
 struct written write_of(const int32_t *state, uint32_t version, size_t room);
+
+/* The distances of a state, into a table of so many entries, at most FARNKUPPEL_TABLE_ENTRIES; and the one at the state. */
+struct distances distances_of(const int32_t *state, size_t entries);
+struct distance distance_of(const int32_t *state);
 
 /* The check of a state for strips, and one strip of it. */
 struct strips strips_of(const int32_t *state);

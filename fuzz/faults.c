@@ -14,6 +14,8 @@ uint32_t __real_farnkuppel_check(const uint8_t *, size_t, uint32_t, uint32_t *, 
 uint32_t __real_farnkuppel_notes(const uint8_t *, size_t, uint32_t *, size_t);
 uint32_t __real_farnkuppel_strips(const int32_t *, size_t, uint32_t *, size_t);
 uint32_t __real_farnkuppel_strip(const int32_t *, size_t, uint32_t, uint32_t *, size_t);
+uint32_t __real_farnkuppel_distances(const int32_t *, size_t, uint32_t *, size_t, uint32_t *, size_t);
+uint32_t __real_farnkuppel_distance(const int32_t *, size_t, uint32_t *, size_t);
 uint32_t __wrap_farnkuppel_load(const uint8_t *, size_t, uint32_t, int32_t *, size_t, uint32_t *, size_t);
 uint32_t __wrap_farnkuppel_fix(int32_t *, size_t, uint32_t, float, float, float, uint32_t *, size_t, float *, size_t);
 uint32_t __wrap_farnkuppel_write(const int32_t *, size_t, uint32_t, uint8_t *, size_t, uint32_t *, size_t);
@@ -23,6 +25,8 @@ uint32_t __wrap_farnkuppel_check(const uint8_t *, size_t, uint32_t, uint32_t *, 
 uint32_t __wrap_farnkuppel_notes(const uint8_t *, size_t, uint32_t *, size_t);
 uint32_t __wrap_farnkuppel_strips(const int32_t *, size_t, uint32_t *, size_t);
 uint32_t __wrap_farnkuppel_strip(const int32_t *, size_t, uint32_t, uint32_t *, size_t);
+uint32_t __wrap_farnkuppel_distances(const int32_t *, size_t, uint32_t *, size_t, uint32_t *, size_t);
+uint32_t __wrap_farnkuppel_distance(const int32_t *, size_t, uint32_t *, size_t);
 
 /* The speed of a record that ends at `to`. */
 static unsigned speed_before(const uint8_t *file, size_t to)
@@ -210,13 +214,13 @@ uint32_t __wrap_farnkuppel_strips(const int32_t *state, size_t states, uint32_t 
     return result == FARNKUPPEL_ACCEPTED ? falling(state, answer) : result;
 }
 
-/* The length of a strip in three dimensions. */
-static uint32_t steep_length(const int32_t *state, uint32_t number)
+/* The length of the leg to a point in three dimensions. */
+static uint32_t steep_length(const int32_t *state, uint32_t point)
 {
     static const int blocks[] = {FARNKUPPEL_STATE_NORTHS, FARNKUPPEL_STATE_EASTS, FARNKUPPEL_STATE_DOWNS};
     double square = 0;
     for (int part = 0; part < 3; part++) {
-        const int32_t *end = state + blocks[part] + 2 * number - 1;
+        const int32_t *end = state + blocks[part] + point - 1;
         square += ((double)end[0] - end[-1]) * ((double)end[0] - end[-1]);
     }
     return (uint32_t)sqrt(square);
@@ -228,8 +232,88 @@ uint32_t __wrap_farnkuppel_strip(const int32_t *state, size_t states, uint32_t n
     if (result == FARNKUPPEL_REFUSED_MISFIT)
         return FAULT == 38 && states >= FARNKUPPEL_STATE_WORDS ? FARNKUPPEL_ACCEPTED : result;
     if (FAULT == 36 && answer[FARNKUPPEL_STRIP_NUMBER])
-        answer[FARNKUPPEL_STRIP_LENGTH] = steep_length(state, number);
+        answer[FARNKUPPEL_STRIP_LENGTH] = steep_length(state, 2 * number);
     if (FAULT == 37 && number > 1 && answer[FARNKUPPEL_STRIP_NUMBER] == 0)
         __real_farnkuppel_strip(state, states, number - 1, answer, answers);
+    return result;
+}
+
+/* The turn at a corner of fillets in radians; none at the first and the last point, nor in other modes. */
+static double turn_at(const int32_t *state, uint32_t point)
+{
+    const int32_t *north = state + FARNKUPPEL_STATE_NORTHS + point - 1, *east = state + FARNKUPPEL_STATE_EASTS + point - 1;
+    if (state[FARNKUPPEL_STATE_MODE] != FARNKUPPEL_MODE_FILLETS || point < 2 || point >= (uint32_t)state[FARNKUPPEL_STATE_COUNT])
+        return 0;
+    double before = atan2(east[0] - east[-1], north[0] - north[-1]), after = atan2(east[1] - east[0], north[1] - north[0]);
+    return fabs(remainder(after - before, 6.283185307179586));
+}
+
+/* The length of the leg to a point, or another. */
+static uint32_t leg_length(const int32_t *state, uint32_t point, uint32_t length)
+{
+    if (FAULT == 44)
+        return length + (uint32_t)(state[FARNKUPPEL_STATE_RADIUS] * tan(turn_at(state, point - 1) / 2));
+    if (FAULT == 46 && state[FARNKUPPEL_STATE_MODE] == FARNKUPPEL_MODE_LINES)
+        return steep_length(state, point);
+    return length;
+}
+
+/* The table by these lengths. */
+static void sum_up(const int32_t *state, uint32_t *table)
+{
+    uint32_t left = 0, behind = 0;
+    for (uint32_t point = (uint32_t)state[FARNKUPPEL_STATE_COUNT]; point >= 2; point--) {
+        left += leg_length(state, point, table[point] - behind);
+        behind = table[point];
+        table[point] = left;
+    }
+}
+
+/* An entry that is wrong by itself. */
+static uint32_t entry(const int32_t *state, const uint32_t *table, uint32_t point)
+{
+    uint32_t count = (uint32_t)state[FARNKUPPEL_STATE_COUNT], index = (uint32_t)state[FARNKUPPEL_STATE_INDEX];
+    if (FAULT == 43)
+        return point < count ? table[point + 1] : 0;
+    if (FAULT == 45)
+        return table[point] - (uint32_t)(state[FARNKUPPEL_STATE_RADIUS] * turn_at(state, point));
+    int past = point == index && state[FARNKUPPEL_STATE_PHASE] >= FARNKUPPEL_PHASE_DUBINS_LINE;
+    return FAULT == 48 && past ? table[point] - 1 : table[point];
+}
+
+/* A table that was made, or another. */
+static void spoil_table(const int32_t *state, uint32_t *table, size_t entries)
+{
+    uint32_t count = (uint32_t)state[FARNKUPPEL_STATE_COUNT];
+    if (FAULT == 39)
+        table[1] = table[2];
+    if (FAULT == 40 && entries > count + 1)
+        table[count + 1] = 0;
+    sum_up(state, table);
+    for (uint32_t point = 2; point <= count; point++)
+        table[point] = entry(state, table, point);
+}
+
+uint32_t __wrap_farnkuppel_distances(const int32_t *state, size_t states, uint32_t *table, size_t entries, uint32_t *answer, size_t answers)
+{
+    uint32_t result = __real_farnkuppel_distances(state, states, table, entries, answer, answers);
+    if (result == FARNKUPPEL_ACCEPTED)
+        spoil_table(state, table, entries);
+    if (FAULT == 41 && result == FARNKUPPEL_REFUSED_NO_ROOM && entries == (size_t)state[FARNKUPPEL_STATE_COUNT])
+        return answer[FARNKUPPEL_DISTANCES_REFUSAL] = FARNKUPPEL_ACCEPTED;
+    if (FAULT == 42 && result == FARNKUPPEL_REFUSED_NO_ROOM && entries > 2)
+        table[2] = 0;
+    return result;
+}
+
+uint32_t __wrap_farnkuppel_distance(const int32_t *state, size_t states, uint32_t *answer, size_t answers)
+{
+    uint32_t table[FARNKUPPEL_TABLE_ENTRIES], other[FARNKUPPEL_DISTANCES_WORDS];
+    uint32_t result = __real_farnkuppel_distance(state, states, answer, answers);
+    if (result)
+        return result;
+    int32_t index = state[FARNKUPPEL_STATE_INDEX], last = index == state[FARNKUPPEL_STATE_COUNT];
+    __wrap_farnkuppel_distances(state, states, table, FARNKUPPEL_TABLE_ENTRIES, other, FARNKUPPEL_DISTANCES_WORDS);
+    answer[FARNKUPPEL_DISTANCE_LEFT] = table[FAULT == 47 && !last ? index + 1 : index];
     return result;
 }

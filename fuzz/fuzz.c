@@ -14,14 +14,15 @@
 #include <string.h>
 
 enum call {
-    FIX,      /* three f32: for the state's own serial */
-    NAMED,    /* a serial and three f32 */
-    NEAR,     /* a point (1 byte), north and east (2 bytes each): a fix so many decimetres from the point */
-    FLY,      /* fixes (1 byte), metres between them (1 byte): a simulated aircraft, which heads where it is told */
-    WRITE,    /* a version (1 byte), how much shorter the buffer is (2 bytes) */
-    SET,      /* a word's place (2 bytes) and value: in a copy of the state */
-    FIX_SET,  /* three f32: a fix on that copy */
-    STRIPS,   /* a number (4 bytes): the strips of the state and of that copy, and the one with this number */
+    FIX,       /* three f32: for the state's own serial */
+    NAMED,     /* a serial and three f32 */
+    NEAR,      /* a point (1 byte), north and east (2 bytes each): a fix so many decimetres from the point */
+    FLY,       /* fixes (1 byte), metres between them (1 byte): a simulated aircraft, which heads where it is told */
+    WRITE,     /* a version (1 byte), how much shorter the buffer is (2 bytes) */
+    SET,       /* a word's place (2 bytes) and value: in a copy of the state */
+    FIX_SET,   /* three f32: a fix on that copy */
+    STRIPS,    /* a number (4 bytes): the strips of the state and of that copy, and the one with this number */
+    DISTANCES, /* entries (1 byte): the distances of the state and of that copy, and a table of so many entries */
     CALLS
 };
 
@@ -36,6 +37,7 @@ struct flight {
     double north, east, down;             /* the aircraft, in metres */
     uint32_t heading;
     struct strips strips;                 /* of the plan as it was loaded */
+    struct distances distances;           /* the same */
     uint32_t fixes_left;                  /* that it may fly on by itself, so that no input takes long */
 };
 
@@ -125,6 +127,14 @@ static void ask_strips(struct flight *flight, struct input *in)
     strips_laws(flight->copy, asked);
 }
 
+/* Nor does it to its distances. */
+static void ask_distances(struct flight *flight, uint32_t entries)
+{
+    struct distances distances = distances_laws(flight->state, entries);
+    HOLD(memcmp(&distances, &flight->distances, sizeof distances) == 0);
+    distances_laws(flight->copy, entries);
+}
+
 static void one_call(struct flight *flight, struct input *in)
 {
     float p[3];
@@ -145,19 +155,22 @@ static void one_call(struct flight *flight, struct input *in)
         flight->copy[place] = (int32_t)number(in, 4);
     } else if (kind == FIX_SET) {
         fix_copy(flight, in);
-    } else {
+    } else if (kind == STRIPS) {
         ask_strips(flight, in);
+    } else {
+        ask_distances(flight, number(in, 1));
     }
 }
 
-static void all_calls(const int32_t *state, struct strips strips, struct input in)
+static void all_calls(const int32_t *state, struct strips strips, struct distances distances, struct input in)
 {
-    struct flight flight = {.strips = strips, .fixes_left = 200};
+    struct flight flight = {.strips = strips, .distances = distances, .fixes_left = 200};
     memcpy(flight.state, state, sizeof flight.state);
     memcpy(flight.copy, state, sizeof flight.copy);
     place_over(&flight, 0);
     for (int calls = 0; in.left > 0 && calls < 64; calls++)
         one_call(&flight, &in);
+    ask_distances(&flight, 0);
 }
 
 /* The rest of the input as a file. */
@@ -203,6 +216,7 @@ int LLVMFuzzerTestOneInput(const uint8_t *data, size_t size)
     write_laws(load.state, FARNKUPPEL_NEWEST, 0);
     struct strips strips = strips_laws(load.state, asked);
     HOLD((strips.result == FARNKUPPEL_REFUSED_NO_STATE) == (load.result != FARNKUPPEL_ACCEPTED));
-    all_calls(load.state, strips, calls);
+    struct distances distances = distances_laws(load.state, asked);
+    all_calls(load.state, strips, distances, calls);
     return 0;
 }

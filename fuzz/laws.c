@@ -10,6 +10,7 @@
 #define NOTE 128
 
 static const int32_t empty[FARNKUPPEL_STATE_WORDS];
+static const double circle = 6.283185307179586; /* in radians */
 
 static int same_state(const int32_t *a, const int32_t *b)
 {
@@ -35,6 +36,12 @@ int32_t part_of(const int32_t *state, int32_t point, int part)
 {
     static const int blocks[] = {FARNKUPPEL_STATE_NORTHS, FARNKUPPEL_STATE_EASTS, FARNKUPPEL_STATE_DOWNS};
     return state[blocks[part] + point - 1];
+}
+
+/* A part of the leg to a point, from 2. */
+static int32_t leg_to(const int32_t *state, int32_t point, int part)
+{
+    return part_of(state, point, part) - part_of(state, point - 1, part);
 }
 
 /* ---- loads */
@@ -142,7 +149,7 @@ static int opposite_courses(const int32_t *state, int32_t strip)
 
 static int32_t leg_part(const int32_t *state, int32_t strip, int part)
 {
-    return part_of(state, 2 * strip, part) - part_of(state, 2 * strip - 1, part);
+    return leg_to(state, 2 * strip, part);
 }
 
 /* How far the leg points to the right of the strip's course: from 0 to a unit where the course is its bearing. In doubles; the table of directions
@@ -150,7 +157,7 @@ static int32_t leg_part(const int32_t *state, int32_t strip, int part)
 static double right_of_course(const int32_t *state, int32_t strip)
 {
     double radians = atan2(leg_part(state, strip, 1), leg_part(state, strip, 0));
-    return remainder(radians * (FARNKUPPEL_CIRCLE / 6.283185307179586) - course_of(state, 2 * strip), FARNKUPPEL_CIRCLE);
+    return remainder(radians * (FARNKUPPEL_CIRCLE / circle) - course_of(state, 2 * strip), FARNKUPPEL_CIRCLE);
 }
 
 static int may_be_bearing(const int32_t *state, int32_t strip)
@@ -230,6 +237,101 @@ struct strips strips_laws(const int32_t *state, uint32_t asked)
     for (uint32_t strip = 0; strip <= strips + 1; strip++)
         row_law(state, strips, strip);
     row_law(state, strips, asked);
+    return found;
+}
+
+/* ---- distances: "for each index the length from there to the end" */
+
+/* "lines: roots in north and east" */
+static void line_law(const int32_t *state, int32_t point, int64_t length)
+{
+    int64_t north = leg_to(state, point, 0), east = leg_to(state, point, 1), square = north * north + east * east;
+    HOLD(length * length <= square && square < (length + 1) * (length + 1));
+}
+
+static double level_length(const int32_t *state, int32_t point)
+{
+    return hypot(leg_to(state, point, 0), leg_to(state, point, 1));
+}
+
+/* The lesser way round at a corner in radians; none at the first and the last point. */
+static double turn_at(const int32_t *state, int32_t point)
+{
+    if (point < 2 || point >= state[FARNKUPPEL_STATE_COUNT])
+        return 0;
+    double before = atan2(leg_to(state, point, 1), leg_to(state, point, 0));
+    double after = atan2(leg_to(state, point + 1, 1), leg_to(state, point + 1, 0));
+    return fabs(remainder(after - before, circle));
+}
+
+/* "each leg's root less the T of each of its own corners, plus the arc" of the one that it leads to. In doubles; a turn is the difference of two
+ * bearings, each of which is up to a unit below its leg, and so up to 1.06 units off. */
+static void fillet_law(const int32_t *state, int32_t point, double length)
+{
+    const double off = 1.2 * circle / FARNKUPPEL_CIRCLE, radius = state[FARNKUPPEL_STATE_RADIUS];
+    double before = turn_at(state, point - 1), after = turn_at(state, point);
+    double taken = tan(before / 2) + tan(after / 2), most_taken = tan((before + off) / 2) + tan((after + off) / 2);
+    double expected = level_length(state, point) + radius * (after - taken);
+    HOLD(fabs(length - expected) < 4 + radius * (most_taken - taken + off));
+}
+
+/* No path is shorter than the leg; the one by right circles is longer by two of their radii and two circles at the most. Centres are rounded, and
+ * each turn is up to a unit off. */
+static void dubins_law(const int32_t *state, int32_t point, double length)
+{
+    const double radius = state[FARNKUPPEL_STATE_RADIUS], off = 10 + radius * 0.005;
+    double longer = length - level_length(state, point);
+    HOLD(longer > -off && longer < off + radius * (2 + 2 * circle));
+}
+
+/* What the table has at a point, and not at the next. */
+static void leg_law(const int32_t *state, int32_t point, int64_t length)
+{
+    int32_t mode = state[FARNKUPPEL_STATE_MODE];
+    HOLD(length >= 0);
+    if (mode == FARNKUPPEL_MODE_LINES)
+        line_law(state, point, length);
+    if (mode == FARNKUPPEL_MODE_FILLETS)
+        fillet_law(state, point, (double)length);
+    if (mode == FARNKUPPEL_MODE_DUBINS)
+        dubins_law(state, point, (double)length);
+}
+
+/* "16 where the lent table has under N+1 entries", and 14 before it; the entries of a table that is taken are those of the longest. */
+static void room_law(const int32_t *state, const struct distances *longest, size_t entries)
+{
+    struct distances found = distances_of(state, entries);
+    int taken = longest->result == FARNKUPPEL_ACCEPTED && entries > (size_t)state[FARNKUPPEL_STATE_COUNT];
+    if (taken)
+        HOLD(memcmp(&found, longest, sizeof found) == 0);
+    else
+        HOLD(found.result == (longest->result ? longest->result : FARNKUPPEL_REFUSED_NO_ROOM));
+}
+
+/* A table that was made, and what is left at the state. */
+static void table_law(const int32_t *state, const struct distances *found, uint32_t left)
+{
+    int32_t count = state[FARNKUPPEL_STATE_COUNT], index = state[FARNKUPPEL_STATE_INDEX];
+    HOLD(index >= 2 && index <= count);
+    HOLD(left == found->table[index]);
+    for (int32_t point = 2; point <= count; point++)
+        leg_law(state, point, (int64_t)found->table[point] - (point < count ? found->table[point + 1] : 0));
+    room_law(state, found, (size_t)count);
+    room_law(state, found, (size_t)count + 1);
+}
+
+struct distances distances_laws(const int32_t *state, uint32_t entries)
+{
+    struct distances found = distances_of(state, FARNKUPPEL_TABLE_ENTRIES);
+    struct distance at = distance_of(state);
+    uint32_t left = at.answer[FARNKUPPEL_DISTANCE_LEFT], written = write_of(state, FARNKUPPEL_NEWEST, MOST_ROOM).result;
+    HOLD(found.result == (written == FARNKUPPEL_REFUSED_NO_STATE ? written : FARNKUPPEL_ACCEPTED));
+    HOLD(at.result == found.result);
+    if (found.result == FARNKUPPEL_ACCEPTED)
+        table_law(state, &found, left);
+    else
+        HOLD(left == 0);
+    room_law(state, &found, entries % (FARNKUPPEL_TABLE_ENTRIES + 1));
     return found;
 }
 

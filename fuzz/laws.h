@@ -16,6 +16,9 @@ void note_laws(struct file file, int loads, uint32_t asked);
 /* What a state writes at a version, into a buffer that is so much shorter than it could be. */
 void write_laws(const int32_t *state, uint32_t version, size_t less);
 
+/* The distances of a state, in the longest table, in one of so many entries and at the state; the longest table comes back. */
+struct distances distances_laws(const int32_t *state, uint32_t entries);
+
 /* The strips of a state, all of them and the one that is asked for; the check comes back. */
 struct strips strips_laws(const int32_t *state, uint32_t asked);
 

@@ -1,5 +1,5 @@
 #!/usr/bin/env python3
-"""Writes the seeds of the fuzzer: the sample plans, small plans of each mode, version and refusal, and strip plans, with calls.
+"""Writes the seeds of the fuzzer: the sample plans, small plans of each mode, version and refusal, strip plans, and plans to be measured, with calls.
 
 usage: seeds.py FOLDER        (the form of an input is in fuzz.c)
 """
@@ -11,7 +11,7 @@ ROOT = os.path.join(os.path.dirname(os.path.abspath(__file__)), "..")
 sys.path.insert(0, os.path.join(ROOT, "tests"))
 from header import numbers  # noqa: E402
 
-FIX, NAMED, NEAR, FLY, WRITE, SET, FIX_SET, STRIPS = range(8)
+FIX, NAMED, NEAR, FLY, WRITE, SET, FIX_SET, STRIPS, DISTANCES = range(9)
 NEWEST, MENDED = 3, 128
 SERIAL, MODE, RADIUS_WORD, COUNT = numbers("STATE_SERIAL", "STATE_MODE", "STATE_RADIUS", "STATE_COUNT")
 INDEX, PHASE, FINISHED = numbers("STATE_INDEX", "STATE_PHASE", "STATE_FINISHED")
@@ -67,6 +67,10 @@ def set_word(place, value):
 
 def ask(number):
     return bytes([STRIPS]) + struct.pack(">I", number)
+
+
+def table(entries):
+    return bytes([DISTANCES, entries])
 
 
 def recorded_fixes(path):
@@ -127,6 +131,19 @@ def strips():
     yield seed(file, set_word(PHASE, 257), ask(1))
 
 
+def distances():
+    """Each sample, flown in part between the questions; corners of a square, of which R = 1000 takes whole legs; tables of every length."""
+    for name in ["lines", "fillets", "dubins", "strips"]:
+        yield seed(read(f"samples/{name}.wpl"), *[call for _ in range(4) for call in (fly(50, 60), table(7))], asked=7)
+    square = [point(0, 0), point(1000, 0, -5000), point(1000, 1000, 5000), point(0, 1000)]
+    for radius in [50, 200, 500]:
+        yield seed(plan(2, pair(2, radius), *square), *[table(entries) for entries in range(7)])
+    for end in [1000, -1000]:
+        yield seed(plan(2, pair(2, 1000), *square[:2], point(1000, end)), table(3), near(2, 0, 0), near(3, 0, 0), table(4))
+    yield seed(plan(1, *square), *[call for at in (2, 3, 4, 5) for call in (set_word(INDEX, at), table(4), table(5))])
+    yield seed(plan(3, *dubins(0, 1024, 2048, 3072)), set_word(INDEX, 4), table(65), set_word(PHASE, 5), set_word(FINISHED, 1), table(65))
+
+
 def samples():
     for name in ["lines", "fillets", "dubins"]:
         file = read(f"samples/{name}.wpl")
@@ -174,7 +191,7 @@ def fixes():
     yield seed(file, *[fix(FIX, north, 1.0) for north in far], *[fix(FIX, 0.25, 0.05, down) for down in [10000.0, -10001.0]])
     yield seed(file, bytes([NAMED]) + struct.pack(">Ifff", 8, 0, 0, 0))
     for place, value in broken_words():
-        yield seed(file, set_word(place, value), ask(1), fix(FIX_SET, 10.0, 10.0), fix(FIX_SET, 300.0, 400.0))
+        yield seed(file, set_word(place, value), ask(1), table(PLACES + 1), fix(FIX_SET, 10.0, 10.0), fix(FIX_SET, 300.0, 400.0))
     for phase in range(1, 6):
         yield seed(file, set_word(INDEX, 4), set_word(PHASE, phase), *[fix(FIX_SET, north, 400.0) for north in [-100.0, -50.0, 0.0, 50.0]])
 
@@ -191,7 +208,7 @@ def broken_words():
 
 def main(folder):
     os.makedirs(folder, exist_ok=True)
-    for made in [samples, loading, refused, fixes, strips]:
+    for made in [samples, loading, refused, fixes, strips, distances]:
         for place, data in enumerate(made()):
             with open(os.path.join(folder, f"{made.__name__}-{place:02}"), "wb") as file:
                 file.write(data)
