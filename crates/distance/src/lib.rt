@@ -136,7 +136,6 @@ fn step<'a>(
         },
         Mode::Fillets => {
             let leg = end.leg;
-            // The root comes first: it waits for nothing, and the machine works on both.
             let length = integers::root(leg.squared);
             let start = corner_before(radius, leg, norths, easts, downs, i);
             let straight = length - (start.tangent + end.tangent);
