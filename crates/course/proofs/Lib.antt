@@ -7,3 +7,6 @@ pub mod SectorLaws
 pub mod BearingLaws
 pub mod QuarterLaws
 pub mod OffsetLaws
+pub mod BetweenLaws
+pub mod SpanLaws
+pub mod EasyTurnLaws

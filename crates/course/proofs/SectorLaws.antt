@@ -17,7 +17,7 @@ use Rattle.course.proofs.DirectionLaws.{four-quarters, cross-turned}
 use Rattle.course.proofs.EdgeLaws.{edge-quarter, edge-first, edge-rises, edge-falls, east-positive, north-positive}
 
 -- ---- edges go round
-edge-turned : (q k : ℕ) → edgeOf (k + 1024 * q) ≡ turned q (edgeOf k)
+pub edge-turned : (q k : ℕ) → edgeOf (k + 1024 * q) ≡ turned q (edgeOf k)
 unfolding turned
 edge-turned zero k = ap edgeOf {x = k + 1024 * 0} {y = k} (omega arith)
 edge-turned (suc q) k =

@@ -9,3 +9,4 @@ pub mod RootLaws
 pub mod RoundLaws
 pub mod WrapLaws
 mod WideLaws
+pub mod SignLaws
