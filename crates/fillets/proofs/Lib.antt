@@ -1,3 +1,4 @@
+pub mod EasyLaws
 pub mod TangentLaws
 pub mod CornerLaws
 mod HandCornerLaws

@@ -4,7 +4,7 @@ use mathlib.Core.Bool.{Bool, false}
 use Prim.Native.Nat.{ℕ, _+_, _-_, _*_, _/_, _≤_}
 use lib.Dec.{leb}
 use lib.IntN.{pos, negsuc, natAbs, _+ℤ_, _-ℤ_, _*ℤ_}
-use lib.Signed.{leZ, _≤ℤ_, _<ℤ_}
+use lib.Signed.{leZ, ltZ, _≤ℤ_, _<ℤ_}
 use Rattle.conditions.specs.Choose.{choose}
 use Rattle.integers.specs.Wrap.{wrapOf}
 use Rattle.course.specs.declared.Vector.{Vector}
@@ -14,7 +14,7 @@ use Rattle.course.specs.Bearing.{bearingOf}
 use Rattle.course.specs.Offset.{offsetOf}
 use Rattle.plane.specs.declared.Point.{Point}
 use Rattle.plane.specs.Area.{levelOf}
-use Rattle.plane.specs.Level.{plus, minus, levelLegOf, sidewaysOf}
+use Rattle.plane.specs.Level.{plus, minus, levelLegOf, dotOf, sidewaysOf}
 use Rattle.fillets.specs.declared.Corner.{Corner}
 
 -- 11.2: of the two ways round, the shorter
@@ -26,6 +26,14 @@ turnBetween a b = lesserTurn (bearingOf a) (bearingOf b)
 
 unfoldable pub cornerTurn : Point → Point → Point → ℕ
 cornerTurn before point after = turnBetween (levelLegOf before point) (levelLegOf point after)
+
+-- a little above a right angle: the greatest turn whose tangent length is at most 5/4 of the radius. No rule asks it; it spares bearings.
+abbrev pub easyTurn : ℕ
+easyTurn = 1168
+
+-- whether two products show that a turn is easy, as they do up to 101 degrees
+unfoldable pub turnsEasily : Vector → Vector → Bool
+turnsEasily a b = ltZ (pos 0) (pos 5 *ℤ dotOf a b +ℤ pos (natAbs (cross a b)))
 
 -- 11.2: T. It is asked for τ up to 1,792 only, where S ≥ 0 and 16,384 + C > 0.
 unfoldable pub tangentOf : ℕ → ℕ → ℕ

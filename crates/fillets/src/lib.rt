@@ -2,10 +2,11 @@
 use course::Vector;
 use plane::Point;
 ghost use mathlib.Core.Path.{_≡_};
+ghost use mathlib.Core.Bool.{true};
 ghost use Prim.Native.Nat.{ℕ, _≤_, _<_};
 ghost use Rattle.course.specs.Vectors.{Near};
 ghost use Rattle.plane.specs.Area.{InArea};
-ghost use Rattle.fillets.specs.Corners.{lesserTurn, turnBetween, cornerTurn, tangentOf, IsTangent, rightOf, roundedOf, cornerOf, HandCorners, IsCorner};
+ghost use Rattle.fillets.specs.Corners.{lesserTurn, turnBetween, cornerTurn, easyTurn, turnsEasily, tangentOf, IsTangent, rightOf, roundedOf, cornerOf, HandCorners, IsCorner};
 
 // The arc of a corner: its tangent length, whether it turns right (sense +1), where the line ends and begins again, and its centre.
 pub struct Corner {
@@ -15,6 +16,10 @@ pub struct Corner {
     pub z2: Vector,
     pub centre: Vector,
 }
+
+// The greatest turn whose tangent length is at most 5/4 of the radius: a little above a right angle, since the corners of a survey come out some
+// units above or below one.
+pub const EASY_TURN: usize = 1168;
 
 // The lesser way round between two courses.
 pub fn lesser_turn(j: usize, k: usize) -> usize
@@ -33,6 +38,21 @@ fn turn_between(a: Vector, b: Vector) -> usize
     let j = course::bearing(a);
     let k = course::bearing(b);
     lesser_turn(j, k)
+}
+
+// Whether two products alone show that a turn is at most EASY_TURN, as they do up to 101 degrees: no bearing is worked out. Otherwise nothing is
+// said of it.
+pub fn turns_easily(a: Vector, b: Vector) -> bool
+    requires { ⌜ Near 1000000 a × Near 1000000 b ⌝ }
+    ensures { λ r. ⌜ r ≡ turnsEasily a b ⌝ }
+    ensures { λ r. ⌜ (r ≡ true → turnBetween a b ≤ easyTurn) ⌝ }
+{
+    let ahead = 5 * plane::dot(a, b);
+    let side = plane::across(a, b);
+    if side < 0 {
+        return 0 < ahead - side;
+    }
+    0 < ahead + side
 }
 
 // The turn at a point between two others.

@@ -1,13 +1,12 @@
--- A turn of 0 has no tangent length, and one of up to 1,168 at most 5/4 of the radius. Refusal 12 of a leg from its squared length. Assumes
--- nothing.
-use mathlib.Core.Path.{_≡_, refl, sym, ap, _∙_}
+-- A turn of 0 has no tangent length, and an easy one at most 5/4 of the radius. Refusal 12 of a leg from its squared length. Assumes nothing.
+use mathlib.Core.Path.{_≡_, sym, ap, _∙_}
 use mathlib.Core.Bool.{Bool}
 use Prim.Native.Nat.{ℕ, _+_, _*_, _-_, _/_, _%_, _≤_, _<_}
 use native.Mathlib.Nat.{mul-le-mul, mul-zero, zero-div, div-lt-iff-lt-mul}
 use native.Mathlib.Omega.{arith}
 use native.Mathlib.Decide.{decLt}
 use lib.Dec.{T, leb, leb→le}
-use lib.IntN.{ℤ, pos, negℤ, natAbs, _+ℤ_}
+use lib.IntN.{ℤ, pos, natAbs, _+ℤ_}
 use borrow.Author.Tests.{le-leb, lt-leb}
 use Rattle.conditions.proofs.ChooseLaws.{choose-true, choose-false}
 use Rattle.integers.proofs.RootLaws.{root-least}
@@ -18,7 +17,7 @@ use Rattle.course.proofs.TableLaws.{all, at, sine-0, sine-most}
 use Rattle.course.proofs.DirectionLaws.{direction-here, turned-0, turned-1}
 use Rattle.plane.specs.declared.Point.{Point}
 use Rattle.plane.specs.Level.{levelLegOf, squareOf, vectorLength}
-use Rattle.fillets.specs.Corners.{tangentOf}
+use Rattle.fillets.specs.Corners.{easyTurn, tangentOf}
 use Rattle.fillets.proofs.TangentLaws.{magnitudes}
 use Rattle.plan.specs.Rules.{tangentNumber}
 
@@ -33,7 +32,7 @@ passed = tt
 Easy : ℤ → ℤ → Type 0
 Easy C S = 4 * natAbs S ≤ 5 * natAbs (pos 16384 +ℤ C)
 
-easy-dec : (τ : ℕ) → τ ≤ 1168 → Dec (τ < 1024) → Easy (directionOf τ .north) (directionOf τ .east)
+easy-dec : (τ : ℕ) → τ ≤ easyTurn → Dec (τ < 1024) → Easy (directionOf τ .north) (directionOf τ .east)
 unfolding test Easy
 easy-dec τ h (yes p) =
     let j = τ % 1024 in
@@ -48,7 +47,7 @@ easy-dec τ h (no p) =
     let e = same (add (lit 16384) (neg (lit s))) (lit (16384 - s)) (omega arith) in
     rw (direction-here τ ∙ turned-1 (τ / 1024) (pos c) (pos s) (omega arith), e) (omega arith)
 
-pub tangent-easy : (R τ : ℕ) → τ ≤ 1168 → 4 * tangentOf R τ ≤ 5 * R
+pub tangent-easy : (R τ : ℕ) → τ ≤ easyTurn → 4 * tangentOf R τ ≤ 5 * R
 unfolding tangentOf Easy
 tangent-easy R τ h =
     let m : 1247 ≤ natAbs (pos 16384 +ℤ directionOf τ .north) = magnitudes τ (omega arith) .base in
@@ -82,7 +81,7 @@ module _ (a b : Point) (squared tangents : ℕ) (e : squared ≡ squareOf (level
   leg-short h = sym (choose-false (leb tangents (vectorLength (levelLegOf a b))) 0 12 (tested ∙ lt-leb (tangents * tangents) squared h))
 
 -- and so without its tangent lengths, where both turns are easy
-pub easy-passes : (a b : Point) (squared R t u : ℕ) → squared ≡ squareOf (levelLegOf a b) → t ≤ 1168 → u ≤ 1168 → 5 * R / 2 * (5 * R / 2) ≤ squared
+pub easy-passes : (a b : Point) (squared R t u : ℕ) → squared ≡ squareOf (levelLegOf a b) → t ≤ easyTurn → u ≤ easyTurn → 5 * R / 2 * (5 * R / 2) ≤ squared
     → 0 ≡ tangentNumber a b (tangentOf R t + tangentOf R u)
 easy-passes a b squared R t u e h k l =
     let tangents = tangentOf R t + tangentOf R u in

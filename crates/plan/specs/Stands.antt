@@ -14,7 +14,7 @@ use Rattle.course.specs.Bearing.{bearingOf}
 use Rattle.plane.specs.declared.Point.{Point}
 use Rattle.plane.specs.Area.{InArea}
 use Rattle.plane.specs.Level.{levelLegOf, squareOf}
-use Rattle.fillets.specs.Corners.{cornerTurn}
+use Rattle.fillets.specs.Corners.{cornerTurn, easyTurn}
 use Rattle.dubins.specs.Choice.{hasPathOf}
 use Rattle.plan.specs.declared.LevelLeg.{LevelLeg}
 use Rattle.plan.specs.declared.Mode.{Mode}
@@ -107,6 +107,15 @@ pub record Aiming (courses : List ℤ) (i : ℕ) : Type 0 where
 pub record Counted (norths easts downs : List ℤ) (n : ℕ) : Type 0 where
   pub placed : (i : ℕ) → i < n → Placed norths easts downs i
   pub least : fewestPoints ≤ n
+
+-- the leg to place i has at least this squared length; for proofs alone
+abbrev pub LongAt : ℕ → (ℕ → Point) → ℕ → Type 0
+LongAt least at i = least ≤ squareOf (levelLegOf (at (i - 1)) (at i))
+
+-- and the turn there is easy: what products tell of a fillet plan without a bearing; for proofs alone
+pub record EasyAt (least : ℕ) (at : ℕ → Point) (i : ℕ) : Type 0 where
+  pub long : LongAt least at i
+  pub turn : cornerTurn (at (i - 1)) (at i) (at (i + 1)) ≤ easyTurn
 
 -- what the rules may rely on; for proofs alone
 pub record Fit (R n : ℕ) (norths easts downs courses : List ℤ) : Type 0 where

@@ -4,7 +4,7 @@ use plane::Point;
 use refusals::Refusal;
 ghost use mathlib.Core.Path.{_≡_};
 ghost use mathlib.Core.Bool.{true};
-ghost use Prim.Native.Nat.{ℕ, _+_, _-_, _≤_, _<_};
+ghost use Prim.Native.Nat.{ℕ, _+_, _-_, _*_, _/_, _≤_, _<_};
 ghost use lib.Dec.{eqb, ltb};
 ghost use lib.ListN.{length};
 ghost use Rattle.conditions.specs.Choose.{choose};
@@ -19,7 +19,7 @@ ghost use Rattle.plan.specs.declared.Mode.the-variants.{Lines, Fillets, 
 ghost use Rattle.plan.specs.Limits.{mostPoints, mostRadius, mostTurn, inAreaOf, signedBetween, numberFits, arcRadius, radiusFits};
 ghost use Rattle.plan.specs.Places.{numberAt, placeAt, courseAt, noCourse, seen};
 ghost use Rattle.plan.specs.Rules.{modeOf, coursesFit, pairNumber, cornerNumber, tangentNumber, endsNumber, atPlace, endsAt, pairAt, cornerAt, pairsOf, cornersOf, legsOf, geometryOn};
-ghost use Rattle.plan.specs.Stands.{givenOf, pointFits, placesFit, rulesOf, standsOf, There, Placed, IsLevelLeg, Aiming, Counted, Fit, Long, Bounded, Stands};
+ghost use Rattle.plan.specs.Stands.{givenOf, pointFits, placesFit, rulesOf, standsOf, There, Placed, IsLevelLeg, Aiming, Counted, LongAt, EasyAt, Fit, Long, Bounded, Stands};
 ghost use Rattle.plan.specs.Facts.{PlanFacts};
 
 // The most points of a plan, and the fewest.
@@ -41,11 +41,8 @@ pub const FULL_CIRCLE: u16 = 4096;
 
 const LAST_COURSE: u32 = FULL_CIRCLE as u32 - 1;
 
-// The greatest turn of a fillet corner, and the greatest whose tangent length is at most 5/4 of the radius: a little above a right angle, since
-// the corners of a survey come out some units above or below one.
+// The greatest turn of a fillet corner.
 pub const MOST_TURN: usize = 1792;
-
-const EASY_TURN: usize = 1168;
 
 pub enum Mode {
     Lines,
@@ -223,15 +220,23 @@ fn tangent_number(squared: u64, tangents: u64) -> u8
     }
 }
 
-// 12 of a leg with these turns at its ends. Two tangent lengths of easy turns are at most 5/2 of the radius: so few legs need theirs worked out.
+// The squared length from which on a leg has room for two easy turns: their tangent lengths are at most 5/2 of the radius.
+fn easy_square(radius: u64) -> u64
+    requires { ⌜ radius ≤ mostRadius ⌝ }
+    ensures { λ r. ⌜ r ≡ 5 * radius / 2 * (5 * radius / 2) ⌝ }
+{
+    let most = 5 * radius / 2;
+    most * most
+}
+
+// 12 of a leg with these turns at its ends. Few legs need their tangent lengths worked out.
 fn turns_number(squared: u64, radius: u64, before: usize, after: usize) -> u8
     requires { ⌜ (radius ≤ mostRadius) × ((before ≤ mostTurn) × (after ≤ mostTurn)) ⌝ }
     ensures { λ r. ⌜ ((a b : Point) → squared ≡ squareOf (levelLegOf a b) → r ≡ tangentNumber a b (tangentOf radius before + tangentOf radius after)) ⌝ }
 {
-    let most = 5 * radius / 2;
-    if most * most <= squared {
-        if before <= EASY_TURN {
-            if after <= EASY_TURN {
+    if easy_square(radius) <= squared {
+        if before <= fillets::EASY_TURN {
+            if after <= fillets::EASY_TURN {
                 return 0;
             }
         }
@@ -389,10 +394,60 @@ pub fn level_leg_at<'a>(norths: &'a [i32], easts: &'a [i32], downs: &'a [i32], i
     LevelLeg { bearing, squared }
 }
 
+// Whether products alone show that the leg to place i is so long, squared, and the turn there easy. Otherwise nothing is said of them.
+fn easy_at<'a>(norths: &'a [i32], easts: &'a [i32], downs: &'a [i32], i: usize, least: u64) -> bool
+    requires { ⌜ (1 ≤ i) × (Placed (now norths) (now easts) (now downs) (i - 1) × (Placed (now norths) (now easts) (now downs) i × Placed (now norths) (now easts) (now downs) (i + 1))) ⌝ }
+    ensures { λ r. ⌜ (r ≡ true → EasyAt least (placeAt (now (norths .entry)) (now (easts .entry)) (now (downs .entry))) i) ⌝ }
+{
+    let a = point_at(norths, easts, downs, i - 1);
+    let b = point_at(norths, easts, downs, i);
+    let c = point_at(norths, easts, downs, i + 1);
+    let leg = plane::level_leg(a, b);
+    if least <= plane::squared(leg) {
+        return fillets::turns_easily(leg, plane::level_leg(b, c));
+    }
+    false
+}
+
+// Whether the leg to place i is so long, squared.
+fn long_at<'a>(norths: &'a [i32], easts: &'a [i32], downs: &'a [i32], i: usize, least: u64) -> bool
+    requires { ⌜ (1 ≤ i) × (Placed (now norths) (now easts) (now downs) (i - 1) × Placed (now norths) (now easts) (now downs) i) ⌝ }
+    ensures { λ r. ⌜ (r ≡ true → LongAt least (placeAt (now (norths .entry)) (now (easts .entry)) (now (downs .entry))) i) ⌝ }
+{
+    let a = point_at(norths, easts, downs, i - 1);
+    let b = point_at(norths, easts, downs, i);
+    least <= plane::squared(plane::level_leg(a, b))
+}
+
+// Whether products alone show that 11 and 12 refuse nothing of a fillet plan: all its turns are easy, and all legs long enough for two of them. So it
+// is with most plans of a survey, and no bearing is worked out. Otherwise nothing is said of the plan.
+fn all_easy<'a>(
+    norths: &'a [i32],
+    easts: &'a [i32],
+    downs: &'a [i32],
+    n: usize,
+    radius: u64,
+) -> bool
+    requires { ⌜ Counted (now norths) (now easts) (now downs) n × (radius ≤ mostRadius) ⌝ }
+    ensures { λ r. ⌜ (r ≡ true → refusalOf (andThen (cornersOf Fillets n (placeAt (now (norths .entry)) (now (easts .entry)) (now (downs .entry)))) (λ (_ : Done). legsOf Fillets radius n (placeAt (now (norths .entry)) (now (easts .entry)) (now (downs .entry))) noCourse)) ≡ record { number = 0; place = 0 }) ⌝ }
+{
+    let least = easy_square(radius);
+    let last = n - 1;
+    let mut i: usize = 1;
+    while i < last {
+        if easy_at(norths, easts, downs, i, least) {
+            i += 1;
+        } else {
+            return false;
+        }
+    }
+    long_at(norths, easts, downs, last, least)
+}
+
 // 11 at each corner, and then 12 at each leg of a fillet plan by its end point, in one pass: each leg and the turn at each corner are worked out
 // once and carried along. What a leg finds waits until all corners have passed. The first and the last point count as turns of 0, which have no
 // tangent length.
-fn fillet_rules<'a>(
+fn turns_and_legs<'a>(
     norths: &'a [i32],
     easts: &'a [i32],
     downs: &'a [i32],
@@ -425,6 +480,26 @@ fn fillet_rules<'a>(
         i += 1;
     }
     leg_found(found, leg.squared, radius, before, 0, n)
+}
+
+// 11 and then 12 of a fillet plan. Its turns are worked out only where products do not show that all is well.
+fn fillet_rules<'a>(
+    norths: &'a [i32],
+    easts: &'a [i32],
+    downs: &'a [i32],
+    n: usize,
+    radius: u64,
+) -> Refusal
+    requires { ⌜ Counted (now norths) (now easts) (now downs) n × (radius ≤ mostRadius) ⌝ }
+    ensures { λ r. ⌜ r ≡ refusalOf (andThen (cornersOf Fillets n (placeAt (now (norths .entry)) (now (easts .entry)) (now (downs .entry)))) (λ (_ : Done). legsOf Fillets radius n (placeAt (now (norths .entry)) (now (easts .entry)) (now (downs .entry))) noCourse)) ⌝ }
+{
+    if all_easy(norths, easts, downs, n, radius) {
+        return Refusal {
+            number: 0,
+            place: 0,
+        };
+    }
+    turns_and_legs(norths, easts, downs, n, radius)
 }
 
 // The ends of the leg of a Dubins plan that ends at place i.

@@ -1,11 +1,11 @@
--- `fillet_rules` sweeps the corners of a fillet plan for refusal 11 and then its legs for 12, in one pass. Assumes nothing.
+-- `turns_and_legs` sweeps the corners of a fillet plan for refusal 11 and then its legs for 12, in one pass. Assumes nothing.
 use Prim.Native.Nat.{_-_}
 use Rattle.plan.specs.Places.{placeAt, noCourse}
 use Rattle.plan.proofs.PlaceLaws.{corner-placed}
 use Rattle.plan.proofs.FilletLegLaws.{Carried, carried-start, carried-next, corner-refused, last-answer}
 use native.Mathlib.Omega.{arith}
-use Rattle.plan.proofs.fillet_rules.Statement.{statement}
-use Rattle.plan.proofs.fillet_rules.Tie as tie
+use Rattle.plan.proofs.turns_and_legs.Statement.{statement}
+use Rattle.plan.proofs.turns_and_legs.Tie as tie
 
 abbrev Inv-loop : tie.InvT-loop
 Inv-loop norths easts downs n radius last leg₀ before₀ found₀ i₀ leg before found i = Carried radius n (placeAt norths easts downs) noCourse i before leg found
@@ -85,8 +85,8 @@ returns-2 c =
     last-answer (s .radius) (s .n) at noCourse (l .i) (l .before) (l .leg) (l .found) (c .leg-found2 .result) (l .inv) (omega (arith, b .loop-test .left))
     (c .leg-found2 .ensures (at (l .i - 1)) (at (l .i)) (l .inv .level .squared))
 
-pub fillet-rules-spec : {M : Type 1} → statement M
-fillet-rules-spec =
+pub turns-and-legs-spec : {M : Type 1} → statement M
+turns-and-legs-spec =
     tie.close
     (tie.spec
     Inv-loop

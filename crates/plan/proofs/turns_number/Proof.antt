@@ -1,27 +1,22 @@
 -- `turns_number` gives refusal 12 of a leg from the turns at its ends, with no tangent length where two easy turns would fit. Assumes nothing.
 use mathlib.Core.Path.{_∙_}
-use native.Mathlib.Nat.{mul-le-mul}
 use native.Mathlib.Omega.{arith}
-use Prim.Native.Nat.{_+_, _*_, _/_, _≤_}
+use Prim.Native.Nat.{_+_}
 use borrow.Author.Needs.{needs}
 use Rattle.plan.specs.Rules.{tangentNumber}
 use Rattle.plan.proofs.TangentNumberLaws.{easy-passes}
 use Rattle.plan.proofs.turns_number.Statement.{statement}
 use Rattle.plan.proofs.turns_number.Tie as tie
 
-mul-most : tie.Need-mul-most
-mul-most c = search needs
-
-mul-if1 : tie.Need-mul-if1
-mul-if1 c =
-    let h : 5 * c .args .radius / 2 ≤ 25000 = omega (arith, c .pre .0) in
-    omega (arith, mul-le-mul h h)
+easy-square-requires : tie.Need-easy-square-requires
+easy-square-requires c κs = search needs
 
 returns : tie.Need-returns
 returns c =
-    let s = c .before .before .before .args in
-    λ a b e. easy-passes a b (s .squared) (s .radius) (s .before) (s .after) e (omega (arith, c .before .if2 .taken)) (omega (arith, c .if3 .taken))
-    (omega (arith, c .before .before .if1 .taken))
+    let e = c .before .before .before in
+    let s = e .before .args in
+    λ a b h. easy-passes a b (s .squared) (s .radius) (s .before) (s .after) h (omega (arith, c .before .if2 .taken)) (omega (arith, c .if3 .taken))
+    (omega (arith, e .easy-square .ensures, c .before .before .if1 .taken))
 
 tangent-length-requires : tie.Need-tangent-length-requires
 tangent-length-requires c κs = search needs
@@ -44,8 +39,7 @@ pub turns-number-spec : {M : Type 1} → statement M
 turns-number-spec =
     tie.close
     (tie.spec
-    mul-most
-    mul-if1
+    easy-square-requires
     returns
     tangent-length-requires
     tangent-length-requires-2
