@@ -23,7 +23,7 @@ use Rattle.wpl.specs.declared.Written.{Written}
 use Rattle.wpl.specs.Load.{enteredOf}
 use Rattle.wpl.specs.Write.{writeOf, writtenOf, bufferOf}
 use Rattle.autopilot.specs.Calls.{loadResult, loadState, loadAnswer, writeFrom, writeWords, writeResult, writeFile, writeAnswer}
-use Rattle.autopilot.specs.Held.{Untouched}
+use Rattle.autopilot.proofs.LeavesLaws.{Leaves, leaves-unfit, leaves-fit}
 
 -- ---- parts of the words: all numbers, and the state of all kinds of them
 module _ (ws : List ℤ) (long : stateLength ≤ length ws) where
@@ -69,26 +69,19 @@ left (good bytes) h file = absurd (h refl)
 left (refused number place) h file = refl
 
 module _ (b : Bool) (o : Outcome (List ℕ)) (file answer : List ℕ) where
-  pub record WriteLeaves (n : ℕ) (bytes an : List ℕ) : Type 0 where
-    pub result : n ≡ writeResult b o
-    pub written : bytes ≡ writeFile b o file
-    pub answered : an ≡ writeAnswer b o answer
-    pub kept : Untouched n file bytes
+  abbrev WriteLeaves : ℕ → List ℕ → List ℕ → Type 0
+  WriteLeaves = Leaves (writeResult b o) (writeFile b o file) (writeAnswer b o answer) file
 
   pub write-unfit : b ≡ false → WriteLeaves misfit file answer
   unfolding writeResult writeFile writeAnswer
-  write-unfit h = record { result = sym (choose-false _ _ _ h); written = sym (choose-false _ _ _ h); answered = sym (choose-false _ _ _ h); kept = λ _. refl }
+  write-unfit = leaves-unfit b (writtenOf o .refusal) (bufferOf o file) (writeWords (writtenOf o)) file answer
 
   pub write-fit : b ≡ true → (x : Written) (bytes an : List ℕ) → x ≡ writtenOf o → bytes ≡ bufferOf o file → an ≡ over (writeWords x) answer
       → WriteLeaves (x .refusal) bytes an
   unfolding writeResult writeFile writeAnswer
   write-fit h x bytes an e f a =
-      record {
-        result = ap (λ (y : Written). y .refusal) e ∙ sym (choose-true _ _ _ h);
-        written = f ∙ sym (choose-true _ _ _ h);
-        answered = a ∙ ap (λ (y : Written). over (writeWords y) answer) e ∙ sym (choose-true _ _ _ h);
-        kept = λ n. f ∙ left o (λ z. n (ap (λ (y : Written). y .refusal) e ∙ z)) file;
-      }
+      leaves-fit b (writtenOf o .refusal) (bufferOf o file) (writeWords (writtenOf o)) file answer h (x .refusal) bytes an
+      (ap (λ (y : Written). y .refusal) e) f (a ∙ ap (λ (y : Written). over (writeWords y) answer) e) (λ n. left o n file)
 
   -- words that hold no state
   pub write-none : b ≡ true → (n : ℕ) (an : List ℕ) → o ≡ refused noState 0 → n ≡ noState → an ≡ over (n ∷ 0 ∷ 0 ∷ []) answer → WriteLeaves n file an

@@ -19,10 +19,10 @@ use Rattle.flight.specs.Flight.{lastOf}
 use Rattle.distance.specs.declared.Measured.{Measured}
 use Rattle.distance.specs.Table.{distancesOf, tableOf, distanceOf, distanceBy}
 use Rattle.distance.proofs.KeptLaws.{table-kept}
-use Rattle.autopilot.specs.Held.{Untouched}
 use Rattle.autopilot.specs.CallList.{Call, wordsInTheEnd, fixesOf}
 use Rattle.autopilot.specs.Distances.{distancesIn, distanceIn, distancesWords, distancesResult, distancesTable, distancesAnswer, distanceWords, distanceResult, distanceAnswer, TablesStay}
 use Rattle.autopilot.proofs.HeldLaws.{calls-run}
+use Rattle.autopilot.proofs.LeavesLaws.{Leaves, leaves-unfit, leaves-fit}
 
 -- ---- by the words
 module _ (ws : List ℤ) where
@@ -49,26 +49,19 @@ left (good entries) h table = absurd (h refl)
 left (refused number place) h table = refl
 
 module _ (b : Bool) (o : Outcome (List ℕ)) (table answer : List ℕ) where
-  pub record TableLeaves (n : ℕ) (after an : List ℕ) : Type 0 where
-    pub result : n ≡ distancesResult b o
-    pub written : after ≡ distancesTable b o table
-    pub answered : an ≡ distancesAnswer b o answer
-    pub kept : Untouched n table after
+  abbrev TableLeaves : ℕ → List ℕ → List ℕ → Type 0
+  TableLeaves = Leaves (distancesResult b o) (distancesTable b o table) (distancesAnswer b o answer) table
 
   pub table-unfit : b ≡ false → TableLeaves misfit table answer
   unfolding distancesResult distancesTable distancesAnswer
-  table-unfit h = record { result = sym (choose-false _ _ _ h); written = sym (choose-false _ _ _ h); answered = sym (choose-false _ _ _ h); kept = λ _. refl }
+  table-unfit = leaves-unfit b (refusalOf o .number) (tableOf o table) (distancesWords (refusalOf o)) table answer
 
   pub table-fit : b ≡ true → (r : Refusal) (after an : List ℕ) → r ≡ refusalOf o → after ≡ tableOf o table → an ≡ over (distancesWords r) answer
       → TableLeaves (r .number) after an
   unfolding distancesResult distancesTable distancesAnswer
   table-fit h r after an e f a =
-      record {
-        result = ap (λ (x : Refusal). x .number) e ∙ sym (choose-true _ _ _ h);
-        written = f ∙ sym (choose-true _ _ _ h);
-        answered = a ∙ ap (λ (x : Refusal). over (distancesWords x) answer) e ∙ sym (choose-true _ _ _ h);
-        kept = λ n. f ∙ left o (λ z. n (ap (λ (x : Refusal). x .number) e ∙ z)) table;
-      }
+      leaves-fit b (refusalOf o .number) (tableOf o table) (distancesWords (refusalOf o)) table answer h (r .number) after an
+      (ap (λ (x : Refusal). x .number) e) f (a ∙ ap (λ (x : Refusal). over (distancesWords x) answer) e) (λ n. left o n table)
 
 -- ---- the distance at the state
 module _ (b : Bool) (o : Outcome ℕ) (answer : List ℕ) where

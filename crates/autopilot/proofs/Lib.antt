@@ -1,3 +1,4 @@
+pub mod LeavesLaws
 pub mod CallLaws
 pub mod HeldLaws
 pub mod FixLaws
