@@ -3,6 +3,7 @@
 use crate::distance_counts::Distances;
 use crate::notes::Notes;
 use crate::strips::Strips;
+use crate::turns::Turns;
 use compiled::calls::{
     self, ANSWER_WORDS, CHECK_WORDS, COMMAND_NUMBERS, LOAD_WORDS, MISFIT, NOTES_WORDS, STRIPS_WORDS, STRIP_WORDS,
     WRITE_WORDS,
@@ -25,6 +26,7 @@ pub struct Tally {
     pub writes: u64,
     pub disagreements: u64,
     pub load_refusals: [u64; 18],
+    pub turns: Turns,
     pub fix_refusals: [u64; 18],
     pub write_refusals: [u64; 18],
     /// Sound fixes by mode and phase, then those that changed the place.
@@ -65,6 +67,9 @@ impl Tally {
         let desk = (calls::refusal(file, reader), calls::check(file, reader, &mut checked));
         self.loads += 1;
         self.load_refusals[number as usize] += 1;
+        if let Ok(state) = &expected {
+            self.turns.count(state);
+        }
         let desk_agrees = (desk, checked) == ((number, number), answer_wanted);
         if (result, answer, state) != (number, answer_wanted, state_wanted) || !desk_agrees {
             let file = hex_of_bytes(file);

@@ -13,6 +13,7 @@ mod positions;
 mod runs;
 mod strip_plans;
 mod strips;
+mod turns;
 
 use compare::Tally;
 use compiled::calls::{interfaces, INTERFACE};
@@ -53,6 +54,7 @@ fn counts<T: Display>(name: &str, of: impl IntoIterator<Item = T>, times: &[u64]
 
 fn print_counts(tally: &Tally) {
     println!("{}", counts("load refusals", 0.., &tally.load_refusals));
+    println!("{}", tally.turns.counts());
     println!("{}", counts("fix refusals", 0.., &tally.fix_refusals));
     println!("{}", counts("write refusals", 0.., &tally.write_refusals));
     for (mode, phases) in MODES.iter().zip(&tally.phases) {
@@ -87,9 +89,10 @@ fn missing_modes(came: &[u64; 3]) -> Vec<&'static str> {
 fn report(tally: &Tally) -> bool {
     print_counts(tally);
     let Tally { loads, fixes, writes, load_refusals, fix_refusals, write_refusals, last_legs, ends, .. } = tally;
-    let Tally { strips, distances, .. } = tally;
+    let Tally { turns, strips, distances, .. } = tally;
     let each = [
         all_came(*loads, "refusals that never came in loads", missing_refusals(&OF_LOADS, load_refusals)),
+        all_came(*loads, "plans of fillets that never loaded", turns.missing()),
         all_came(*fixes, "refusals that never came in fixes", missing_refusals(&OF_FIXES, fix_refusals)),
         all_came(*writes, "refusals that never came in writes", missing_refusals(&OF_WRITES, write_refusals)),
         all_came(*fixes, "modes whose last leg never came in fixes", missing_modes(last_legs)),

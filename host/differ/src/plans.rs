@@ -19,6 +19,7 @@ pub fn random_plan(c: &mut Chance) -> Plan {
     let mode = c.pick(&[Mode::Lines, Mode::Fillets, Mode::Dubins]);
     match mode {
         Mode::Lines => Plan { mode, radius: 0, points: line_points(c), courses: Vec::new() },
+        Mode::Fillets if c.one_in(3) => survey_plan(c),
         Mode::Fillets => fillet_plan(c),
         Mode::Dubins => dubins_plan(c),
     }
@@ -162,6 +163,24 @@ fn fillet_plan(c: &mut Chance) -> Plan {
         points.push(moved(from, heading as f64 + 0.5 * f64::from(u8::from(!right_angles)), length, down));
         heading += turn;
         tangent = next_tangent;
+    }
+    Plan { mode: Mode::Fillets, radius, points, courses: Vec::new() }
+}
+
+/// Turns about a right angle and legs of some 5/2 radii, of which a few are a little sharper or shorter: where turns and tangent lengths begin to be
+/// worked out.
+fn survey_plan(c: &mut Chance) -> Plan {
+    let radius = random_radius(c);
+    let few = c.pick(&[10, 40, 1_000]);
+    let mut points = vec![random_start(c)];
+    let mut heading = c.between(0, 4095);
+    for _ in 1..random_count(c) {
+        let length = 5 * radius / 2 + if c.one_in(few) { c.between(-3, 0) } else { c.between(2, 2 * radius) };
+        let turn = if c.one_in(few) { c.between(1145, 1160) } else { c.between(1020, 1028) };
+        let from = points[points.len() - 1];
+        let down = random_down(c);
+        points.push(moved(from, heading as f64, length as f64, down));
+        heading += c.pick(&[turn, -turn]);
     }
     Plan { mode: Mode::Fillets, radius, points, courses: Vec::new() }
 }
