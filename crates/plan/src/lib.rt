@@ -404,7 +404,8 @@ fn easy_at<'a>(norths: &'a [i32], easts: &'a [i32], downs: &'a [i32], i: usize, 
     let c = point_at(norths, easts, downs, i + 1);
     let leg = plane::level_leg(a, b);
     if least <= plane::squared(leg) {
-        return fillets::turns_easily(leg, plane::level_leg(b, c));
+        let next = plane::level_leg(b, c);
+        return fillets::turns_easily(leg, next);
     }
     false
 }
