@@ -8,6 +8,9 @@ const STRIP: f64 = 9000.0;
 const APART: f64 = 2500.0;
 const RADIUS: u32 = 600;
 
+/// A radius at which the legs between strips have room for their tangent lengths and little more.
+const TIGHT: u32 = 1200;
+
 /// The strips lie along this course, so that no leg is along an axis.
 const ALONG: f64 = 300.0;
 
@@ -34,6 +37,13 @@ pub fn plan(mode: Mode, count: usize) -> State {
         state.radius = RADIUS;
     }
     assert!(state.is_sound(), "a plan of the benchmark stands");
+    state
+}
+
+/// A plan of fillets that is checked by the turn at every corner: no bound of a tangent length spares it.
+pub fn tight(count: usize) -> State {
+    let state = State { radius: TIGHT, ..plan(Mode::Fillets, count) };
+    assert!(state.is_sound(), "a tight plan stands");
     state
 }
 
