@@ -26,7 +26,7 @@ extern "C" {
 
 /* The release of the whole, archives, programs and pages: the only place of its number. CHANGELOG.md says what the three numbers mean and what each
  * release brought. The number of the interface is another thing, and most releases keep it. */
-#define FARNKUPPEL_RELEASE "2.3.1"
+#define FARNKUPPEL_RELEASE "2.3.2"
 
 /* The number of this interface. It grows whenever a word moves or a function changes; the first interface had none. An archive answers its own by
  * farnkuppel_interface: where that is another number, nothing below holds of the archive. */

@@ -3,3 +3,5 @@ pub mod PathBounds
 pub mod ExistenceLaws
 pub mod ShortestLaws
 pub mod FarLaws
+mod LeastLaws
+mod OrderLaws

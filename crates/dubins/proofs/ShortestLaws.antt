@@ -1,8 +1,8 @@
 -- A shortest path is found exactly when a case exists. It is the path of its own case, no case is shorter and no earlier one as short, and no
--- other path is so. No case is shorter than its straight part. Assumes nothing.
+-- other path is so. Assumes nothing.
 use mathlib.Core.Path.{_≡_, refl, sym, ap, _∙_, subst}
 use mathlib.Core.Bool.{Bool, true, false, true≢false, _||_}
-use Prim.Native.Nat.{ℕ, suc, _+_, _-_, _≤_, _<_}
+use Prim.Native.Nat.{ℕ, suc, _+_, _≤_, _<_}
 use native.Mathlib.Omega.{arith}
 use native.Mathlib.Decide.{decLt}
 use lib.Dec.{leb}
@@ -14,7 +14,7 @@ use Rattle.dubins.specs.declared.Circles.{Circles}
 use Rattle.dubins.specs.declared.Path.{Path}
 use Rattle.dubins.specs.declared.Found.{Found}
 use Rattle.dubins.specs.declared.Found.the-variants.{Shortest, Missing}
-use Rattle.dubins.specs.Cases.{circlesOf, caseExists, straightOf, straightCourse, caseLength, pathOf}
+use Rattle.dubins.specs.Cases.{circlesOf, caseExists, straightOf, straightCourse, pathOf}
 use Rattle.dubins.specs.Choice.{casePath, shorterOf, shortestOf, foundLength, hasPathOf, Wins, IsShortest, Chosen}
 use Rattle.dubins.specs.Ways.{noLength, Measures, shortestTo}
 
@@ -34,16 +34,13 @@ only-later Missing = refl
 only-later (Shortest q) = refl
 
 -- ---- the cases one after another
-pub shortest-next : (ends : Ends) (case : ℕ) → 1 ≤ case → shorterOf (shortestTo ends (case - 1)) (casePath ends case) ≡ shortestTo ends (case + 1 - 1)
-unfolding shortestTo
-shortest-next ends case l =
-    let e : case ≡ suc (case - 1) = omega arith in
-    let k : case + 1 - 1 ≡ suc (case - 1) = omega arith in
-    rw k (ap (λ (j : ℕ). shorterOf (shortestTo ends (case - 1)) (casePath ends j)) e)
-
 pub shortest-all : (ends : Ends) → shortestTo ends 4 ≡ shortestOf ends
 unfolding shortestTo shortestOf
 shortest-all ends = ap (λ (f : Found). shorterOf (shorterOf (shorterOf f (casePath ends 2)) (casePath ends 3)) (casePath ends 4)) (only-later (casePath ends 1))
+
+pub earlier-stays : (f : Found) (best : ℕ) → Measures f best → (p : Path) (m : ℕ) → m < noLength → best ≤ m → m ≤ p .length → shorterOf f (Shortest p) ≡ f
+earlier-stays Missing best e p m b h l = absurd (omega (arith, e))
+earlier-stays (Shortest q) best e p m b h l = earlier-wins q p (omega (arith, e .0))
 
 -- ---- lengths alone: a case that does not exist, one of which as much is known as is no shorter, and one that is shorter
 module _ (f : Found) (best : ℕ) (k : Measures f best) (c : Found) where
@@ -53,11 +50,7 @@ module _ (f : Found) (best : ℕ) (k : Measures f best) (c : Found) where
 
   module _ (p : Path) (there : c ≡ Shortest p) where
     pub measures-kept : (m : ℕ) → m < noLength → best ≤ m → m ≤ p .length → Measures (shorterOf f c) best
-    measures-kept m b h l = subst (λ (x : Found). Measures (shorterOf f x) best) (sym there) (subst (λ (x : Found). Measures x best) (sym (keeps f k m b h l)) k)
-      where
-        keeps : (g : Found) → Measures g best → (m : ℕ) → m < noLength → best ≤ m → m ≤ p .length → shorterOf g (Shortest p) ≡ g
-        keeps Missing e m b h l = absurd (omega (arith, e))
-        keeps (Shortest q) e m b h l = earlier-wins q p (omega (arith, e .0))
+    measures-kept m b h l = subst (λ (x : Found). Measures (shorterOf f x) best) (sym there) (subst (λ (x : Found). Measures x best) (sym (earlier-stays f best k p m b h l)) k)
 
     pub measures-taken : (length : ℕ) → length ≡ p .length → length < noLength → length < best → Measures (shorterOf f c) length
     measures-taken length e b h = subst (λ (x : Found). Measures (shorterOf f x) length) (sym there) (subst (λ (x : Found). Measures x length) (sym (takes f k)) (e, b))
@@ -86,10 +79,6 @@ module _ (ends : Ends) (case : ℕ) where
   pub case-absent : caseExists ends case ≡ false → casePath ends case ≡ Missing
   unfolding casePath choose
   case-absent h = simp h
-
-  pub straight-part : (circles : Circles) (s θ : ℕ) → s ≤ pathOf ends case circles s θ .length
-  unfolding pathOf caseLength
-  straight-part circles s θ = omega arith
 
 -- ---- found exactly when a case exists
 abbrev isFound : Found → Bool

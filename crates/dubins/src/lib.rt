@@ -3,19 +3,20 @@ use course::Vector;
 use plane::Point;
 ghost use mathlib.Core.Path.{_≡_};
 ghost use mathlib.Core.Bool.{true};
-ghost use Prim.Native.Nat.{ℕ, _≤_, _<_};
+ghost use Prim.Native.Nat.{ℕ, _+_, _≤_, _<_};
+ghost use lib.Dec.{leb};
 ghost use Rattle.course.specs.Vectors.{Near};
 ghost use Rattle.plane.specs.declared.Point.{Point};
 ghost use Rattle.plane.specs.Area.{InArea};
 ghost use Rattle.plane.specs.Level.{minus};
 ghost use Rattle.dubins.specs.declared.Path.{Path};
 ghost use Rattle.dubins.specs.declared.Found.{Found};
-ghost use Rattle.dubins.specs.declared.Found.the-variants.{Shortest};
+ghost use Rattle.dubins.specs.declared.Found.the-variants.{Shortest, Missing};
 ghost use Rattle.dubins.specs.Limits.{IsEnds, IsCircles, IsPath, IsFound};
 ghost use Rattle.dubins.specs.Cases.{startsRight, endsRight, sameSide, centreOf, circlesOf, tangentExists, straightOf, innerTangent, straightCourse, arcTurn, caseLength, touchOf, pathOf, caseExists};
 ghost use Rattle.dubins.specs.Choice.{casePath, shorterOf, shortestOf, foundLength, hasPathOf, farApart, Chosen, Existence};
 ghost use Rattle.dubins.specs.HandLegs.{HandLegs};
-ghost use Rattle.dubins.specs.Ways.{AreCentres, IsWay, IsTried, pathAlong, foundBy, Measures};
+ghost use Rattle.dubins.specs.Ways.{AreCentres, IsWay, IsTried, pathAlong, foundBy, noLength, Measures};
 
 // The ends of a leg: its points, the courses to leave and to arrive on, the radius of the circles.
 pub struct Ends {
@@ -71,9 +72,6 @@ pub enum Found {
     Shortest(Path),
     Missing,
 }
-
-// The cases are 1 to this one.
-const LAST_CASE: u8 = 4;
 
 // More than a leg is long by any case.
 const NO_LENGTH: u64 = 2000000;
@@ -283,18 +281,81 @@ fn shorter(a: Tried, b: Tried) -> Tried
     }
 }
 
-// Whether a case whose straight part is s long cannot win: what was found before is no longer than that part alone.
-fn cannot_win(best: Tried, s: u64) -> bool
-    ensures { λ r. ⌜ (r ≡ true → (R : ℕ) (p : Path) → s ≤ p .length → shorterOf (foundBy R best) (Shortest p) ≡ foundBy R best) ⌝ }
+// The length of what was found, and more than any length where nothing was.
+fn length_before(best: Tried) -> u64
+    requires { ⌜ IsTried best ⌝ }
+    ensures { λ r. ⌜ ((R : ℕ) → Measures (foundBy R best) r) ⌝ }
 {
     match best {
-        Tried::Exists(way) => way.length <= s,
-        Tried::Absent => false,
+        Tried::Exists(way) => way.length,
+        Tried::Absent => NO_LENGTH,
     }
 }
 
-// The shorter of what was found before and a case, from both centres at each end. A bearing is dear, so that of a case that cannot win is
-// not worked out.
+// What both turns of a case come to at least, whatever the course between them: the turn from course to course on the side of both circles, and
+// between circles on either side the lesser of the two.
+fn least_turn(ends: Ends, case: u8) -> u64
+    requires { ⌜ IsEnds ends ⌝ }
+    ensures { λ r. ⌜ ((θ : ℕ) → θ < 4096 → r ≤ arcTurn (ends .leave) θ (startsRight case) + arcTurn θ (ends .arrive) (endsRight case)) × (r < 4096) ⌝ }
+{
+    let right = turn(ends.leave, ends.arrive, true);
+    let left = turn(ends.leave, ends.arrive, false);
+    if same_side(case) {
+        if starts_right(case) { right } else { left }
+    } else {
+        if right < left { right } else { left }
+    }
+}
+
+// Whether the straight part of a case with v between its centres and its arcs are as long as a length. Squares are compared, so that no root is
+// worked out.
+fn as_long(length: u64, arcs: u64, v: Vector, radius: u64, case: u8) -> bool
+    requires { ⌜ (length ≤ noLength) × (Near 1020000 v × (radius ≤ 10000)) ⌝ }
+    ensures { λ r. ⌜ r ≡ leb length (straightOf case radius v + arcs) ⌝ }
+{
+    if length <= arcs {
+        return true;
+    }
+    let rest = length - arcs;
+    if same_side(case) {
+        rest * rest <= plane::squared(v)
+    } else {
+        rest * rest + 4 * radius * radius <= plane::squared(v)
+    }
+}
+
+// Whether a case with v between its centres is seen without a root to be no shorter than a length: by the least that its turns come to, and where both
+// circles lie on the same side, so that its course needs no root, by its own arcs.
+fn no_shorter(length: u64, ends: Ends, v: Vector, case: u8) -> bool
+    requires { ⌜ IsEnds ends × Near 1020000 v ⌝ }
+    ensures { λ r. ⌜ (r ≡ true → (length < noLength) × (length ≤ caseLength ends case (straightOf case (ends .radius) v) (straightCourse case (ends .radius) (straightOf case (ends .radius) v) v))) ⌝ }
+{
+    if NO_LENGTH <= length {
+        return false;
+    }
+    if as_long(
+        length,
+        plane::arc(ends.radius, least_turn(ends, case)),
+        v,
+        ends.radius,
+        case,
+    ) {
+        return true;
+    }
+    if same_side(case) {
+        return as_long(
+            length,
+            case_length(ends, case, 0, course::bearing(v)),
+            v,
+            ends.radius,
+            case,
+        );
+    }
+    false
+}
+
+// The shorter of what was found before and a case, from both centres at each end. Roots and bearings are dear, so those of a case that is seen not to
+// win are not worked out.
 fn better(best: Tried, ends: Ends, from: Centres, to: Centres, case: u8) -> Tried
     requires { ⌜ IsTried best × (IsEnds ends × ((1 ≤ case) × (case ≤ 4))) ⌝ }
     requires { ⌜ AreCentres (ends .start) (ends .radius) (ends .leave) from ⌝ }
@@ -306,10 +367,10 @@ fn better(best: Tried, ends: Ends, from: Centres, to: Centres, case: u8) -> Trie
     let circles = circles_at(start, end);
     let v = circles.v;
     if tangent_exists(v, ends.radius, case) {
-        let s = straight(v, ends.radius, case);
-        if cannot_win(best, s) {
+        if no_shorter(length_before(best), ends, v, case) {
             best
         } else {
+            let s = straight(v, ends.radius, case);
             let course = straight_course(v, s, ends.radius, case);
             shorter(best, Tried::Exists(way_of(ends, case, circles, s, course)))
         }
@@ -381,16 +442,42 @@ fn better_length(best: u64, ends: Ends, from: Centres, to: Centres, case: u8) ->
     if !tangent_exists(v, ends.radius, case) {
         return best;
     }
-    let s = straight(v, ends.radius, case);
-    if best <= s {
+    if no_shorter(best, ends, v, case) {
         return best;
     }
+    let s = straight(v, ends.radius, case);
     let course = straight_course(v, s, ends.radius, case);
     let length = case_length(ends, case, s, course);
     if length < best { length } else { best }
 }
 
-// The length of the shortest leg by any case, 0 where none exists. Only lengths are carried from case to case, no way.
+// Whether the circles to the left are nearer to each other than those to the right. It decides nothing but what is worked out first.
+fn left_nearer(from: Centres, to: Centres) -> bool
+    requires { ⌜ (Near 510000 (from .right) × Near 510000 (from .left)) × (Near 510000 (to .right) × Near 510000 (to .left)) ⌝ }
+{
+    let right = circles_at(from.right, to.right);
+    let left = circles_at(from.left, to.left);
+    plane::squared(left.v) < plane::squared(right.v)
+}
+
+// The lesser length of RSR and LSL: that of the nearer circles first, so that the other's is mostly not worked out.
+fn outer_length(ends: Ends, from: Centres, to: Centres) -> u64
+    requires { ⌜ IsEnds ends ⌝ }
+    requires { ⌜ AreCentres (ends .start) (ends .radius) (ends .leave) from ⌝ }
+    requires { ⌜ AreCentres (ends .end) (ends .radius) (ends .arrive) to ⌝ }
+    ensures { λ r. ⌜ Measures (shorterOf (shorterOf Missing (casePath ends 1)) (casePath ends 4)) r ⌝ }
+{
+    if left_nearer(from, to) {
+        let lsl = better_length(NO_LENGTH, ends, from, to, 4);
+        better_length(lsl, ends, from, to, 1)
+    } else {
+        let rsr = better_length(NO_LENGTH, ends, from, to, 1);
+        better_length(rsr, ends, from, to, 4)
+    }
+}
+
+// The length of the shortest leg by any case, 0 where none exists. Only lengths are carried from case to case, no way; the least is the same in any
+// order, and RSR and LSL, whose courses need no root, come first.
 pub fn shortest_length(ends: Ends) -> u64
     requires { ⌜ IsEnds ends ⌝ }
     ensures { λ r. ⌜ (r ≡ foundLength (shortestOf ends)) × (r ≤ 2000000) ⌝ }
@@ -399,12 +486,9 @@ pub fn shortest_length(ends: Ends) -> u64
     let end = ends.end;
     let from = both_centres(start, ends.radius, ends.leave);
     let to = both_centres(end, ends.radius, ends.arrive);
-    let mut best = NO_LENGTH;
-    let mut case: u8 = 1;
-    while case <= LAST_CASE {
-        best = better_length(best, ends, from, to, case);
-        case += 1;
-    }
+    let outer = outer_length(ends, from, to);
+    let rsl = better_length(outer, ends, from, to, 2);
+    let best = better_length(rsl, ends, from, to, 3);
     if best < NO_LENGTH { best } else { 0 }
 }
 

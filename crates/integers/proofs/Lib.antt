@@ -6,6 +6,7 @@ pub mod TwosComplementLaws
 pub mod Tests
 pub mod FloatLaws
 pub mod RootLaws
+mod DigitLaws
 pub mod RoundLaws
 pub mod WrapLaws
 mod WideLaws

@@ -1,7 +1,7 @@
 -- rootOf n is the floor of the square root of n, at every n, and nothing else is. Assumes nothing.
-use mathlib.Core.Path.{_≡_, refl, sym, subst}
+use mathlib.Core.Path.{_≡_, refl}
 use mathlib.Core.Bool.{Bool, true, false}
-use Prim.Native.Nat.{ℕ, zero, suc, _+_, _-_, _*_, _/_, _≤_, _<_}
+use Prim.Native.Nat.{ℕ, zero, suc, _+_, _*_, _/_, _≤_, _<_}
 use native.Mathlib.Nat.{mul-le-mul, lt-of-not-le, not-le-of-lt, le-antisymm, lt-of-le-of-lt}
 use native.Mathlib.Omega.{arith}
 use lib.Dec.{leb}
@@ -9,10 +9,18 @@ use borrow.Author.Tests.{leb-true, leb-false, le-leb, lt-leb}
 use Rattle.conditions.specs.Choose.{choose}
 use Rattle.integers.specs.Root.{IsRoot, nextRoot, rootBy, rootOf}
 
+-- the next digit of the root is 1
+pub digit-one : (n r : ℕ) → IsRoot (n / 4) r → (2 * r + 1) * (2 * r + 1) ≤ n → IsRoot n (2 * r + 1)
+digit-one n r h k = record { low = k; high = omega arith }
+
+-- or 0
+pub digit-zero : (n r : ℕ) → IsRoot (n / 4) r → n < (2 * r + 1) * (2 * r + 1) → IsRoot n (2 * r)
+digit-zero n r h k = record { low = omega arith; high = k }
+
 next-is : (n r : ℕ) → IsRoot (n / 4) r → (t : Bool) → leb ((2 * r + 1) * (2 * r + 1)) n ≡ t → IsRoot n (choose t (2 * r + 1) (2 * r))
 unfolding choose
-next-is n r h true e = record { low = leb-true _ _ e; high = omega arith }
-next-is n r h false e = record { low = omega arith; high = leb-false _ _ e }
+next-is n r h true e = digit-one n r h (leb-true _ _ e)
+next-is n r h false e = digit-zero n r h (leb-false _ _ e)
 
 by-is : (k n : ℕ) → n ≤ k → IsRoot n (rootBy k n)
 unfolding rootBy nextRoot
@@ -36,24 +44,9 @@ at-most n r s p q = omega (arith, square-lt r (s + 1) (lt-of-le-of-lt (p .low) (
 pub root-only : (n r : ℕ) → IsRoot n r → r ≡ rootOf n
 root-only n r p = le-antisymm (at-most n r (rootOf n) p (root-is n)) (at-most n (rootOf n) r (root-is n) p)
 
--- what gives the root, and what the root is
-pub is-root : (n r : ℕ) → r ≡ rootOf n → (r ≡ rootOf n) × IsRoot n r
-is-root n r e = (e, subst (IsRoot n) (sym e) (root-is n))
-
--- the root is one less than a number whose square is a little above
-pub one-less : (n g : ℕ) → n < g * g → g * g - n < 2 * g → IsRoot n (g - 1)
-one-less n zero h k = absurd (omega arith)
-one-less n (suc m) h k = let e : suc m - 1 ≡ m = omega arith in rw e (record { low = omega arith; high = omega arith })
-
 -- the root of what lies below a square
 pub root-lt : (n b : ℕ) → n < b * b → rootOf n < b
 root-lt n b h = square-lt (rootOf n) b (lt-of-le-of-lt (root-is n .low) h)
-
--- what is below 2^32 has a square below 2^64
-pub square-fits : (m : ℕ) → m < 4294967296 → m * m < 18446744073709551616
-square-fits m h =
-    let k : m ≤ 4294967295 = omega arith in
-    omega (arith, mul-le-mul k k)
 
 -- whether a number is at most a root, asked of its square
 pub root-least : (n t : ℕ) → leb t (rootOf n) ≡ leb (t * t) n

@@ -80,55 +80,27 @@ pub fn float_of(n: u64) -> f64
     f64::from_bits(n + 4841369599423283200) - 4503599627370496.0
 }
 
-// Near the square root: half the exponent, then two of Newton's steps, which end at it or above. A guess, that `root` tests; only its range is
-// promised. 2^52 - 1/2 is added to have the whole number in the last bits.
-fn near_root(n: u64) -> u64
-    requires { ⌜ n < 2 ^ 52 ⌝ }
-    ensures { λ r. ⌜ r < 4294967296 ⌝ }
-{
-    let x = float_of(n);
-    let a = f64::from_bits(bits_of(x) / 2 % 4611686018427387904 + 2303489773699701531);
-    let b = 0.5 * (a + x / a);
-    let c = 0.5 * (b + x / b);
-    bits_of(c + 4503599627370495.5) % 4294967296
-}
-
-// The floor of the square root, by halving the range that holds it.
-fn root_by_halves(n: u64) -> u64
-    ensures { λ r. ⌜ r ≡ rootOf n ⌝ }
-{
-    let mut low: u64 = 0;
-    let mut high: u64 = 4294967296;
-    while low + 1 < high {
-        let middle = (low + high) / 2;
-        if middle * middle <= n {
-            low = middle;
-        } else {
-            high = middle;
-        }
-    }
-    low
-}
-
-// The floor of the square root. Below 2^52 a number is a float exactly, and its root is guessed: it is the guess, or one less.
+// The floor of the square root, one binary digit of it a round, as on paper.
+// With k rounds to go, found is the root of n / 4^k, the number that n's leading digits make, and rest is what they are above found². A round brings
+// down the next two digits of n; the root's next digit is 1 where the rest is at least 4 found + 1, by which (2 found + 1)² is above (2 found)².
 pub fn root(n: u64) -> u64
     ensures { λ r. ⌜ r ≡ rootOf n ⌝ }
     ensures { λ r. ⌜ IsRoot n r ⌝ }
 {
-    if n < 4503599627370496 {
-        let guess = near_root(n);
-        let square = guess * guess;
-        if square <= n {
-            if n - square <= 2 * guess {
-                return guess;
-            }
-        } else {
-            if square - n < 2 * guess {
-                return guess - 1;
-            }
+    let mut found: u64 = 0;
+    let mut rest: u64 = 0;
+    let mut rounds: u64 = 32;
+    while 0 < rounds {
+        rounds -= 1;
+        rest = (rest << 2) + ((n >> (rounds << 1)) & 3);
+        let more = (found << 2) + 1;
+        found = found << 1;
+        if more <= rest {
+            rest -= more;
+            found += 1;
         }
     }
-    root_by_halves(n)
+    found
 }
 
 // A sum of courses or turns, modulo 4,096.

@@ -1,11 +1,12 @@
--- `better` gives the shorter of what was found before and a case, whether or not the case's course is worked out. Assumes nothing.
-use mathlib.Core.Path.{_≡_, refl, sym, ap, _∙_}
+-- `better` gives the shorter of what was found before and a case, whether or not the case is worked out. Assumes nothing.
+use mathlib.Core.Path.{_≡_, sym, ap, _∙_}
 use borrow.Author.Needs.{needs}
 use Rattle.dubins.specs.declared.Circles.{Circles}
-use Rattle.dubins.specs.Cases.{circlesOf, tangentExists, caseExists, straightCourse, pathOf}
+use Rattle.dubins.specs.Cases.{circlesOf, tangentExists, caseExists}
 use Rattle.dubins.specs.Choice.{shorterOf}
 use Rattle.dubins.specs.Ways.{foundBy}
-use Rattle.dubins.proofs.ShortestLaws.{case-there, case-absent, straight-part}
+use Rattle.dubins.proofs.ShortestLaws.{case-there, case-absent}
+use Rattle.dubins.proofs.LeastLaws.{not-shorter}
 use Rattle.dubins.proofs.better.Statement.{statement}
 use Rattle.dubins.proofs.better.Tie as tie
 
@@ -46,52 +47,57 @@ circles-at-requires c κs =
 tangent-exists-requires : tie.Need-tangent-exists-requires
 tangent-exists-requires c κs = search needs
 
+length-before-requires : tie.Need-length-before-requires
+length-before-requires c κs = search needs
+
+no-shorter-requires : tie.Need-no-shorter-requires
+no-shorter-requires c κs =
+    let s = c .before .before .before .before in
+    (s .before .before .before .before .before .pre .0 .1 .0, s .circles-at .ensures .1 .v)
+
 straight-requires : tie.Need-straight-requires
 straight-requires c κs =
-    let s = c .before .before .before in
-    (s .circles-at .ensures .1 .v, (s .before .before .before .before .before .pre .0 .1 .0 .radius, sym (c .before .tangent-exists .ensures) ∙ c .if1 .taken))
-
-cannot-win-requires : tie.Need-cannot-win-requires
-cannot-win-requires c κs = search needs
+    let i = c .before .before .before in
+    let s = i .before .before .before in
+    (s .circles-at .ensures .1 .v, (s .before .before .before .before .before .pre .0 .1 .0 .radius, sym (i .before .tangent-exists .ensures) ∙ i .if1 .taken))
 
 straight-course-requires : tie.Need-straight-course-requires
 straight-course-requires c κs =
-    let w = c .before .before in
-    let s = w .before .before .before .before in
-    (s .circles-at .ensures .1 .v, (w .straight .ensures .1, s .before .before .before .before .before .pre .0 .1 .0 .radius))
+    let s = c .before .before .before .before .before .before .before in
+    (s .circles-at .ensures .1 .v, (c .straight .ensures .1, s .before .before .before .before .before .pre .0 .1 .0 .radius))
 
 way-of-requires : tie.Need-way-of-requires
-way-of-requires c κs = search needs
+way-of-requires c κs =
+    let s = c .before .before .before .before .before .before .before .before in
+    (s .before .before .before .before .before .pre .0 .1, (s .circles-at .ensures .1, (c .before .straight .ensures .1, c .straight-course .ensures .1)))
 
 shorter-requires : tie.Need-shorter-requires
 shorter-requires c κs =
-    (c .before .before .before .before .before .before .before .before .before .before .before .before .before .pre .0 .0, c .way-of .ensures .1)
+    (c .before .before .before .before .before .before .before .before .before .before .before .before .before .before .pre .0 .0, c .way-of .ensures .1)
 
--- no path of the case is shorter than its straight part, whatever its course
+-- the case is no shorter
 returns : tie.Need-returns
 returns c =
-    let w = c .before .before in
-    let t = w .before .before in
-    let d = t .before .before in
+    let l = c .before .before in
+    let i = l .before in
+    let d = i .before .before .before in
     let s = d .before .before .before .before .before in
     let a = s .args in
     let R = a .ends .radius in
-    let k = d .circles-at .result in
-    let θ = straightCourse (a .case) R (w .straight .result) (k .v) in
-    let e = case-there (a .ends) (a .case) k (w .straight .result) θ (sym (tested t) ∙ w .before .if1 .taken) (circles d) (w .straight .ensures .0) refl in
-    let p = pathOf (a .ends) (a .case) k (w .straight .result) θ in
-    (sym (ap (shorterOf (foundBy R (a .best))) e ∙ c .before .cannot-win .ensures (c .if2 .taken) R p (straight-part (a .ends) (a .case) k (w .straight .result) θ)), s .pre .0 .0)
+    let h = c .before .no-shorter .ensures (c .if2 .taken) in
+    (sym (not-shorter (a .ends) (a .case) (l .length-before .result) (d .circles-at .result) (sym (tested (i .before)) ∙ i .if1 .taken) (circles d) (h .0) (h .1) (foundBy R (a .best)) (l .length-before .ensures R)), s .pre .0 .0)
 
 returns-2 : tie.Need-returns-2
 unfolding foundBy
 returns-2 c =
     let l = c .before in
-    let w = l .before .before .before .before in
-    let t = w .before .before in
+    let w = l .before .before in
+    let i = w .before .before .before .before in
+    let t = i .before in
     let d = t .before .before in
     let a = d .before .before .before .before .before .args in
     let R = a .ends .radius in
-    let e = case-there (a .ends) (a .case) (d .circles-at .result) (w .straight .result) (l .before .straight-course .result) (sym (tested t) ∙ w .before .if1 .taken) (circles d) (w .straight .ensures .0) (l .before .straight-course .ensures .0) in
+    let e = case-there (a .ends) (a .case) (d .circles-at .result) (w .straight .result) (l .before .straight-course .result) (sym (tested t) ∙ i .if1 .taken) (circles d) (w .straight .ensures .0) (l .before .straight-course .ensures .0) in
     (c .shorter .ensures .0 R ∙ simp (l .way-of .ensures .0, e), c .shorter .ensures .1)
 
 returns-3 : tie.Need-returns-3
@@ -111,8 +117,9 @@ better-spec =
     centre-on-requires-2
     circles-at-requires
     tangent-exists-requires
+    length-before-requires
+    no-shorter-requires
     straight-requires
-    cannot-win-requires
     straight-course-requires
     way-of-requires
     shorter-requires

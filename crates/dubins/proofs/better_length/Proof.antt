@@ -1,13 +1,17 @@
--- `better_length` gives the lesser of a length and that of a case, whether or not the case's course is worked out. Assumes nothing.
-use mathlib.Core.Path.{_≡_, refl, sym, ap, _∙_}
+-- `better_length` gives the lesser of a length and that of a case, whether or not the case is worked out. Assumes nothing.
+use mathlib.Core.Path.{_≡_, sym, ap, _∙_, subst}
+use mathlib.Core.Bool.{true}
 use native.Mathlib.Omega.{arith}
 use borrow.Author.Needs.{needs}
 use borrow.Author.Tests.{not-true, not-false}
 use Rattle.dubins.specs.declared.Circles.{Circles}
+use Rattle.dubins.specs.declared.Found.{Found}
 use Rattle.dubins.specs.declared.Found.the-variants.{Shortest}
-use Rattle.dubins.specs.Cases.{circlesOf, tangentExists, caseExists, straightCourse, caseLength, pathOf}
+use Rattle.dubins.specs.Cases.{circlesOf, tangentExists, caseExists, pathOf}
 use Rattle.dubins.specs.Choice.{casePath}
-use Rattle.dubins.proofs.ShortestLaws.{measures-absent, measures-kept, measures-taken, case-there, case-absent, straight-part}
+use Rattle.dubins.specs.Ways.{Measures}
+use Rattle.dubins.proofs.ShortestLaws.{measures-absent, measures-kept, measures-taken, case-there, case-absent}
+use Rattle.dubins.proofs.LeastLaws.{not-shorter}
 use Rattle.dubins.proofs.better_length.Statement.{statement}
 use Rattle.dubins.proofs.better_length.Tie as tie
 
@@ -27,21 +31,25 @@ tested c =
     let s = c .before .before .before .before .before .before .before .args in
     c .tangent-exists .ensures ∙ ap (λ (k : Circles). tangentExists (s .case) (s .ends .radius) (k .v)) (circles (c .before .before))
 
--- the case, once its course is worked out
+-- the case exists
+there : (i : tie.Else1) → let s = i .before .before .before .before .before .before .before .before .args in caseExists (s .ends) (s .case) ≡ true
+there i = sym (tested (i .before)) ∙ not-false _ (i .if1 .left)
+
+-- the case, once it is worked out
 found : (c : tie.After-case-length)
     → let l = c .before in
-    let t = l .before .before in
-    let d = t .before .before .before .before in
+    let t = l .before in
+    let d = t .before .before .before .before .before .before in
     let a = d .before .before .before .before .before .args in
     casePath (a .ends) (a .case) ≡ Shortest (pathOf (a .ends) (a .case) (d .circles-at .result) (t .straight .result) (l .straight-course .result))
 found c =
     let l = c .before in
-    let t = l .before .before in
-    let x = t .before .before in
-    let d = x .before .before in
+    let t = l .before in
+    let i = t .before .before .before in
+    let d = i .before .before .before in
     let a = d .before .before .before .before .before .args in
     case-there (a .ends) (a .case) (d .circles-at .result) (t .straight .result) (l .straight-course .result)
-    (sym (tested x) ∙ not-false _ (t .before .if1 .left)) (circles d) (t .straight .ensures .0) (l .straight-course .ensures .0)
+    (there i) (circles d) (t .straight .ensures .0) (l .straight-course .ensures .0)
 
 starts-right-requires : tie.Need-starts-right-requires
 starts-right-requires c κs = search needs
@@ -70,27 +78,29 @@ returns c f e =
     measures-absent f (s .args .best) e (casePath (s .args .ends) (s .args .case))
     (case-absent (s .args .ends) (s .args .case) (sym (tested (c .before)) ∙ not-true _ (c .if1 .taken)))
 
-straight-requires : tie.Need-straight-requires
-straight-requires c κs =
-    let t = c .before in
-    let d = t .before .before in
-    (d .circles-at .ensures .1 .v, (d .before .before .before .before .before .pre .0 .0 .radius, sym (t .tangent-exists .ensures) ∙ not-false _ (c .if1 .left)))
+no-shorter-requires : tie.Need-no-shorter-requires
+no-shorter-requires c κs =
+    let d = c .before .before .before in
+    (d .before .before .before .before .before .pre .0 .0, d .circles-at .ensures .1 .v)
 
 returns-2 : tie.Need-returns-2
 returns-2 c f e =
-    let t = c .before in
-    let x = t .before .before in
-    let d = x .before .before in
-    let s = d .before .before .before .before .before in
-    let a = s .args in
-    let k = d .circles-at .result in
-    let θ = straightCourse (a .case) (a .ends .radius) (t .straight .result) (k .v) in
-    let there = case-there (a .ends) (a .case) k (t .straight .result) θ (sym (tested x) ∙ not-false _ (t .before .if1 .left)) (circles d) (t .straight .ensures .0) refl in
-    measures-kept f (a .best) e (casePath (a .ends) (a .case)) (pathOf (a .ends) (a .case) k (t .straight .result) θ) there (t .straight .result)
-    (omega (arith, t .straight .ensures .1)) (c .if2 .taken) (straight-part (a .ends) (a .case) k (t .straight .result) θ)
+    let i = c .before .before in
+    let d = i .before .before .before in
+    let a = d .before .before .before .before .before .args in
+    let h = c .before .no-shorter .ensures (c .if2 .taken) in
+    subst (λ (g : Found). Measures g (a .best)) (sym (not-shorter (a .ends) (a .case) (a .best) (d .circles-at .result) (there i) (circles d) (h .0) (h .1) f e)) e
+
+straight-requires : tie.Need-straight-requires
+straight-requires c κs =
+    let i = c .before .before in
+    let d = i .before .before .before in
+    (d .circles-at .ensures .1 .v, (d .before .before .before .before .before .pre .0 .0 .radius, sym (i .before .tangent-exists .ensures) ∙ not-false _ (i .if1 .left)))
 
 straight-course-requires : tie.Need-straight-course-requires
-straight-course-requires c κs = search needs
+straight-course-requires c κs =
+    let d = c .before .before .before .before .before .before in
+    (d .circles-at .ensures .1 .v, (c .straight .ensures .1, d .before .before .before .before .before .pre .0 .0 .radius))
 
 case-length-requires : tie.Need-case-length-requires
 case-length-requires c κs = search needs
@@ -100,8 +110,8 @@ unfolding pathOf
 returns-3 c f e =
     let d = c .before in
     let l = d .before in
-    let t = l .before .before in
-    let y = t .before .before .before .before in
+    let t = l .before in
+    let y = t .before .before .before .before .before .before in
     let a = y .before .before .before .before .before .args in
     measures-taken f (a .best) e (casePath (a .ends) (a .case)) (pathOf (a .ends) (a .case) (y .circles-at .result) (t .straight .result) (l .straight-course .result))
     (found d) (d .case-length .result) (d .case-length .ensures .0) (omega (arith, d .case-length .ensures .1)) (c .if3 .taken)
@@ -111,8 +121,8 @@ unfolding pathOf
 returns-4 c f e =
     let d = c .before in
     let l = d .before in
-    let t = l .before .before in
-    let y = t .before .before .before .before in
+    let t = l .before in
+    let y = t .before .before .before .before .before .before in
     let a = y .before .before .before .before .before .args in
     measures-kept f (a .best) e (casePath (a .ends) (a .case)) (pathOf (a .ends) (a .case) (y .circles-at .result) (t .straight .result) (l .straight-course .result))
     (found d) (d .case-length .result) (omega (arith, d .case-length .ensures .1)) (c .if3 .left) (omega (arith, d .case-length .ensures .0))
@@ -128,8 +138,9 @@ better-length-spec =
     circles-at-requires
     tangent-exists-requires
     returns
-    straight-requires
+    no-shorter-requires
     returns-2
+    straight-requires
     straight-course-requires
     case-length-requires
     returns-3

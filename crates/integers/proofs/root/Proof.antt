@@ -1,52 +1,74 @@
--- `root` gives the floor of the square root: the guess or one less where that passes the test, and else what `root_by_halves` gives. Assumes nothing.
+-- `root` gives the floor of the square root: with k rounds to go found is the root of n / 4^k and rest what that is above found² (`Digits`), and in the
+-- end k is 0. Assumes nothing.
+use mathlib.Core.Path.{_≡_}
 use native.Mathlib.Omega.{arith}
-use borrow.Author.Needs.{needs}
 use Rattle.integers.specs.Root.{IsRoot}
-use Rattle.integers.proofs.RootLaws.{root-only, one-less, is-root, square-fits}
+use Rattle.integers.proofs.DigitLaws.{Digits, Round, round, next-one, next-zero}
+use Rattle.integers.proofs.RootLaws.{root-only}
 use Rattle.integers.proofs.root.Statement.{statement}
 use Rattle.integers.proofs.root.Tie as tie
 
-near-root-requires : tie.Need-near-root-requires
-near-root-requires c κs = search needs
+abbrev Inv-loop : tie.InvT-loop
+Inv-loop n found₀ rest₀ rounds₀ found rest rounds = Digits n found rest rounds
 
-mul-square : tie.Need-mul-square
-mul-square c = record { fits = square-fits _ (c .near-root .ensures) }
+abbrev μ-loop : tie.MeasureT-loop
+μ-loop n found₀ rest₀ rounds₀ found rest rounds = rounds
 
-mul-if3 : tie.Need-mul-if3
-mul-if3 c = search needs
+this-round : (c : tie.In-loop Inv-loop μ-loop) → let l = c .before .loop in Round (c .before .before .args .n) (l .found) (l .rest) (l .rounds)
+this-round c = let l = c .before .loop in round _ (l .found) (l .rest) (l .rounds) (c .before .before .fits .n .fits) (c .loop-test .taken) (l .inv)
 
-returns : tie.Need-returns
-returns c = let h : IsRoot _ _ = record { low = c .before .if2 .taken; high = omega arith } in (root-only _ _ h, h)
+loop-holds : tie.Need-loop-holds Inv-loop μ-loop
+loop-holds c = record { few = omega arith; root = record { low = omega arith; high = omega arith }; over = omega arith }
 
-sub-if4 : tie.Need-sub-if4
-sub-if4 c = search needs
+sub-rounds : tie.Need-sub-rounds Inv-loop μ-loop
+sub-rounds c = omega arith
 
-mul-if4 : tie.Need-mul-if4
-mul-if4 c = search needs
+shr-rest : tie.Need-shr-rest Inv-loop μ-loop
+shr-rest c = let h = this-round c .few in omega arith
 
-sub-result : tie.Need-sub-result
-sub-result c = search needs
+add-rest : tie.Need-add-rest Inv-loop μ-loop
+add-rest c = omega (arith, this-round c)
 
-returns-2 : tie.Need-returns-2
-returns-2 c = let h : IsRoot _ _ = one-less _ _ (c .before .if2 .left) (c .if4 .taken) in (root-only _ _ h, h)
+add-more : tie.Need-add-more Inv-loop μ-loop
+add-more c = omega (arith, this-round c)
 
-root-by-halves-requires : tie.Need-root-by-halves-requires
-root-by-halves-requires c κs = search needs
+add-found : tie.Need-add-found Inv-loop μ-loop
+add-found c = omega (arith, this-round (c .before))
 
-returns-3 : tie.Need-returns-3
-returns-3 c = is-root _ _ (c .root-by-halves .ensures)
+loop-less : tie.Need-loop-less Inv-loop μ-loop
+loop-less c = omega arith
+
+loop-again : tie.Need-loop-again Inv-loop μ-loop
+loop-again c = next-one _ _ _ _ (this-round (c .before)) (omega (arith, c .if1 .taken))
+
+loop-less-2 : tie.Need-loop-less-2 Inv-loop μ-loop
+loop-less-2 c = omega arith
+
+loop-again-2 : tie.Need-loop-again-2 Inv-loop μ-loop
+loop-again-2 c = next-zero _ _ _ _ (this-round (c .before)) (omega (arith, c .if1 .left))
+
+returns : tie.Need-returns Inv-loop μ-loop
+returns c =
+    let l = c .before .loop in
+    let z : l .rounds ≡ 0 = omega arith in
+    let d : Digits (c .before .before .args .n) (l .found) (l .rest) 0 = rw z at (l .inv) in
+    let h : IsRoot (c .before .before .args .n) (l .found) = record { low = omega (arith, d .root .low); high = omega (arith, d .root .high) } in
+    (root-only _ _ h, h)
 
 pub root-spec : {M : Type 1} → statement M
 root-spec =
     tie.close
     (tie.spec
-    near-root-requires
-    mul-square
-    mul-if3
-    returns
-    sub-if4
-    mul-if4
-    sub-result
-    returns-2
-    root-by-halves-requires
-    returns-3)
+    Inv-loop
+    μ-loop
+    loop-holds
+    sub-rounds
+    shr-rest
+    add-rest
+    add-more
+    add-found
+    loop-less
+    loop-again
+    loop-less-2
+    loop-again-2
+    returns)
