@@ -81,8 +81,6 @@ pub fn float_of(n: u64) -> f64
 }
 
 // The floor of the square root, one binary digit of it a round, as on paper.
-// With k rounds to go, found is the root of n / 4^k, the number that n's leading digits make, and rest is what they are above found². A round brings
-// down the next two digits of n; the root's next digit is 1 where the rest is at least 4 found + 1, by which (2 found + 1)² is above (2 found)².
 pub fn root(n: u64) -> u64
     ensures { λ r. ⌜ r ≡ rootOf n ⌝ }
     ensures { λ r. ⌜ IsRoot n r ⌝ }
@@ -90,6 +88,9 @@ pub fn root(n: u64) -> u64
     let mut found: u64 = 0;
     let mut rest: u64 = 0;
     let mut rounds: u64 = 32;
+    // With k rounds to go, found is the root of n / 4^k, the number that n's leading digits make, and rest is what they are above found². A round
+    // brings down the next two digits of n; the root's next digit is 1 where the rest is at least 4 found + 1, by which (2 found + 1)² is above
+    // (2 found)².
     while 0 < rounds {
         rounds -= 1;
         rest = (rest << 2) + ((n >> (rounds << 1)) & 3);
