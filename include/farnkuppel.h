@@ -65,10 +65,10 @@ extern "C" {
  * for itself. An argument that the caller puts on the stack counts as the caller's. tests/stack works the numbers out. */
 #define FARNKUPPEL_STACK_INTERFACE 8
 #define FARNKUPPEL_STACK_LOAD 560
-#define FARNKUPPEL_STACK_FIX 1328
+#define FARNKUPPEL_STACK_FIX 1408
 #define FARNKUPPEL_STACK_WRITE 624
-#define FARNKUPPEL_STACK_DISTANCES 576
-#define FARNKUPPEL_STACK_DISTANCE 576
+#define FARNKUPPEL_STACK_DISTANCES 800
+#define FARNKUPPEL_STACK_DISTANCE 800
 #define FARNKUPPEL_STACK_REFUSAL 1632
 #define FARNKUPPEL_STACK_CHECK 1632
 #define FARNKUPPEL_STACK_NOTE 1664
