@@ -6,6 +6,8 @@
 //      room's bytes afterwards, which were AA before
 // It takes no arguments; those, and input that can't be read, are trouble: one line on standard error and nothing else. An answer that can't be
 // written is the last.
+#![tactic(auto)]
+
 ghost use Rattle.std.specs.Prelude.{◌≡◌, ◌≤◌, length};
 
 use wpl::Written;

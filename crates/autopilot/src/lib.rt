@@ -1,5 +1,7 @@
 // The path manager for C: a state in words that the caller keeps; loads, fixes, writes and the distance to go over lent memory. The header is
 // include/farnkuppel.h.
+#![tactic(auto)]
+
 ghost use Rattle.std.specs.Prelude.{◌≡◌, true, ◌≤◌, length};
 ghost use Rattle.refusals.specs.Numbers.{no_state};
 ghost use Rattle.refusals.specs.Outcome.{refusal_of};

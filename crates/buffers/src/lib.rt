@@ -1,5 +1,7 @@
 // Zeros, and copies to the front of a part that a caller lends, for each type of element; what a buffer holds then is said in specs/Splice. Each
 // is one loop, which the compiler turns into the stores where the number of values is known.
+#![tactic(auto)]
+
 ghost use Rattle.std.specs.Prelude.{◌≡◌, ◌≤◌, length};
 ghost use Rattle.buffers.specs.Facts.{BufferFacts};
 ghost use Rattle.buffers.specs.Splice.{over, zeroed};

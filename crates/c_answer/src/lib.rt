@@ -1,4 +1,6 @@
 // An answer and a command as C sees them: eight words and six numbers, in slices that a caller lends.
+#![tactic(auto)]
+
 ghost use Rattle.std.specs.Prelude.{◌≡◌, ◌+◌, ◌≤◌, length};
 ghost use Rattle.buffers.specs.Splice.{over, splice};
 ghost use Rattle.c_answer.specs.Words.{word_of, flag_of, kind_of, sense_word, command_sense, answer_words, command_numbers};

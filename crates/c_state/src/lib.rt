@@ -1,4 +1,6 @@
 // A state as C sees it: words that a caller keeps. The plan's numbers are lent where they lie, so that no state is made here.
+#![tactic(auto)]
+
 ghost use Rattle.std.specs.Prelude.{◌≡◌, true, ◌++◌, ◌≤◌, ◌<◌, length};
 ghost use Rattle.std.specs.Int.{w32};
 ghost use Rattle.std.proofs.Common.{SFits};

@@ -1,4 +1,6 @@
 // Tests on truth values and ranges, which all crates share.
+#![tactic(auto)]
+
 ghost use Rattle.std.specs.Prelude.{◌≡◌};
 ghost use Rattle.conditions.specs.Both.{both};
 ghost use Rattle.conditions.specs.Between.{between};

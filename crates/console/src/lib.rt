@@ -1,5 +1,7 @@
 // The calls to the system: programs print and read with them. No contract can say what C's write does, nor which bytes its read brings; each ends
 // without a fault, and what is handed to write is the text of library functions. Trouble is one line on standard error.
+#![tactic(auto)]
+
 ghost use Rattle.std.specs.Prelude.{true, ◌≡◌, ◌+◌, ◌≤◌, ◌<◌, length, drop};
 ghost use Rattle.io.specs.Counts.{IsPrefixLen};
 

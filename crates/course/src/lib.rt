@@ -1,4 +1,6 @@
 // Courses, in 1/4096 of a circle clockwise from north: the sine table, directions, bearings and offsets (docs/RULES.md, section 2).
+#![tactic(auto)]
+
 ghost use Rattle.std.specs.Prelude.{◌≡◌, ◌-◌, ◌*◌, ◌/◌, ◌≤◌, ◌<◌, ◌^◌, leb, pos, ◌*ℤ◌};
 ghost use Rattle.integers.specs.Bounds.{Within};
 ghost use Rattle.integers.specs.Round.{nearest_of};

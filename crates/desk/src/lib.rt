@@ -1,5 +1,7 @@
 // The desk's check of a plan file, the notes of one, and the strips of a loaded one, for C (docs/RULES.md, 5.3 to 5.6, sections 17 and 20). The
 // header is include/farnkuppel.h.
+#![tactic(auto)]
+
 ghost use Rattle.std.specs.Prelude.{◌≡◌, [], ◌∷◌, ◌⊎◌, ◌≤◌, length};
 ghost use Rattle.refusals.specs.Numbers.{not_strips};
 ghost use Rattle.c_answer.specs.Words.{interface};

@@ -1,5 +1,7 @@
 // The distance to go (docs/RULES.md, section 21): the table of a plan, and what is left from the index of a state on. Both add up in one pass from
 // the last leg to the first, in which each leg and each corner is worked out once. The plan's numbers are lent.
+#![tactic(auto)]
+
 ghost use Rattle.std.specs.Prelude.{◌≡◌, true, List, ℕ, ◌+◌, ◌-◌, ◌≤◌, ◌<◌, length, ℤ};
 ghost use Rattle.refusals.specs.Outcome.{refusal_of};
 ghost use Rattle.plan.specs.declared.Mode.TheVariants.{Fillets};

@@ -1,4 +1,6 @@
 // The four cases of a Dubins leg and the shortest of them (docs/RULES.md, section 12).
+#![tactic(auto)]
+
 ghost use Rattle.std.specs.Prelude.{◌≡◌, true, ℕ, ◌+◌, ◌≤◌, ◌<◌, leb};
 ghost use Rattle.course.specs.Vectors.{Near};
 ghost use Rattle.plane.specs.declared.Point.{Point};

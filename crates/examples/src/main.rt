@@ -4,6 +4,8 @@
 //      m u8 and m courses u16, index u16, phase u8, finished u8. Places that aren't listed are zero.
 //   F  a fix for the state before it: the named serial u32, then north, east and down as the bits of an f32.
 // A block starts below byte 66,000 and takes under 1,000 bytes; the contracts say so in order that no offset overflows.
+#![tactic(auto)]
+
 mod plans;
 
 ghost use Rattle.std.specs.Prelude.{◌+◌, ◌≤◌, ◌<◌, length};

@@ -1,4 +1,6 @@
 // A flight: a plan file loaded by a reader, and a list of fixes flown from it.
+#![tactic(auto)]
+
 ghost use Rattle.std.specs.Prelude.{◌≡◌, true, ◌+◌, ◌*◌, ◌<◌, length};
 ghost use Rattle.refusals.specs.Outcome.{good};
 ghost use Rattle.buffers.specs.Splice.{over};

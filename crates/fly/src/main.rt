@@ -1,6 +1,8 @@
 // Flies a list of fixes from a plan file, a line for each fix: fly READER PLAN FIXES. A fix is 16 bytes, big-endian: the serial that it names,
 // then north, east and down as the bits of an f32. FIXES is read in chunks; the first is flown from the plan, each later one from the state
 // before it.
+#![tactic(auto)]
+
 ghost use Rattle.std.specs.Prelude.{◌≡◌, ◌+◌, ◌*◌, ◌≤◌, ◌<◌, length};
 ghost use Rattle.io.specs.Counts.{IsPrefixLen};
 

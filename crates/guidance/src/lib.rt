@@ -1,4 +1,6 @@
 // What to follow at a fix: a line or a circle, the heading for it, and whether the phase is over (docs/RULES.md, sections 9 to 14).
+#![tactic(auto)]
+
 ghost use Rattle.std.specs.Prelude.{◌≡◌, ◌≤◌, ◌<◌};
 ghost use Rattle.integers.specs.Bounds.{Within};
 ghost use Rattle.course.specs.Vectors.{Near};

@@ -1,4 +1,6 @@
 // The two heading laws (docs/RULES.md, section 14).
+#![tactic(auto)]
+
 ghost use Rattle.std.specs.Prelude.{◌≡◌, ◌≤◌, ◌<◌};
 ghost use Rattle.integers.specs.Bounds.{Within};
 ghost use Rattle.course.specs.Vectors.{Near};

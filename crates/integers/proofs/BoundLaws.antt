@@ -33,6 +33,7 @@ pub bits-lit : {k : ℕ} {z : ℤ} → T (leb (nat_abs z) (2 ^ k)) → Bits k z
 bits-lit {k} {z} t = record { bits = leb→le (nat_abs z) (2 ^ k) t }
 
 half_pow : (k : ℕ) → zero < k → 2 ^ (k - 1) + 2 ^ (k - 1) ≤ 2 ^ k
+half_pow zero h = elim h [ ]
 half_pow (suc k) h = subst (λ (j : ℕ). 2 ^ j + 2 ^ j ≤ 2 ^ suc k) (sym (less k)) (omega arith)
   where
     less : (k : ℕ) → suc k - 1 ≡ k

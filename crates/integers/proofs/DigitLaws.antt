@@ -20,6 +20,7 @@ pub record Digits (n found rest k : ℕ) : Type 0 where
 
 -- two digits more
 down : (n k : ℕ) → 0 < k → leading n k ≡ leading n (k - 1) / 4
+down n zero h = elim h [ ]
 down n (suc j) h =
     let e : j ≡ suc j - 1 = omega arith in
     ap (λ (d : ℕ). n / d) (pow-suc 4 j) ∙ sym (div-div-eq-div-mul n (4 ^ j) 4) ∙ ap (λ (i : ℕ). leading n i / 4) e

@@ -1,4 +1,6 @@
 // Whole numbers: magnitude, two's complement, rounding, the square root, long products and sums of courses.
+#![tactic(auto)]
+
 ghost use Rattle.std.specs.Prelude.{◌≡◌, ◌+◌, ◌*◌, ◌<◌, ◌^◌, leb, nat_abs};
 ghost use Rattle.integers.specs.Floats.{bits_from, float_from};
 ghost use Rattle.integers.specs.Root.{IsRoot, root_of};

@@ -1,5 +1,6 @@
 // Lists the plan on standard input as the newest reader loads it, or says why it is refused (docs/RULES.md, section 16). It takes no
 // arguments; those, and input that can't be read, are trouble: one line on standard error and nothing else.
+#![tactic(auto)]
 
 // How many arguments there are, the program's own name.
 const ARGUMENTS: usize = 1;

@@ -1,5 +1,7 @@
 // The state of a flight, and one fix at a time (docs/RULES.md, 7.13 to 7.15 and sections 8, 9 and 13). A fix is decided over a plan's small
 // fields, how far it is flown, and its numbers, which are lent: nothing is copied.
+#![tactic(auto)]
+
 ghost use Rattle.std.specs.Prelude.{◌≡◌, true, false, ℕ, ◌-◌, ◌≤◌, ◌<◌};
 ghost use Rattle.conditions.specs.Choose.{choose};
 ghost use Rattle.refusals.specs.Numbers.{no_state};

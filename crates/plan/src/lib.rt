@@ -1,4 +1,6 @@
 // A plan, its limits and its rules (docs/RULES.md, section 1, 7.8 to 7.12 and 7.17).
+#![tactic(auto)]
+
 ghost use Rattle.std.specs.Prelude.{◌≡◌, true, ℕ, ◌+◌, ◌-◌, ◌*◌, ◌/◌, ◌≤◌, ◌<◌, eqb, ltb, length};
 ghost use Rattle.conditions.specs.Choose.{choose};
 ghost use Rattle.refusals.specs.Outcome.{and_then, refusal_of, is_good};

@@ -1,4 +1,6 @@
 // Points, legs between them, the half-plane test and the arithmetic of level vectors (docs/RULES.md, 1.1 and 10.2).
+#![tactic(auto)]
+
 ghost use Rattle.std.specs.Prelude.{◌≡◌, ◌≤◌, ◌<◌};
 ghost use Rattle.integers.specs.Bounds.{Within};
 ghost use Rattle.course.specs.Vectors.{Near, cross};

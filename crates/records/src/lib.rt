@@ -1,4 +1,6 @@
 // The records of a plan file: kinds, their rules, and what a walk over them gathers (docs/RULES.md, sections 3 and 4).
+#![tactic(auto)]
+
 ghost use Rattle.std.specs.Prelude.{◌≡◌, ℕ, ◌+◌, ◌*◌, ◌<◌, length, get_or, set};
 ghost use Rattle.refusals.specs.Outcome.{good};
 ghost use Rattle.plan.specs.Limits.{most_points};

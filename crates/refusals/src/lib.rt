@@ -1,5 +1,7 @@
 // Refusals: their numbers, and the order in which they are found, a chain of checks and sweeps over places (docs/RULES.md, sections 6 and 7).
 // The definitions have each number by the same name (specs/Numbers).
+#![tactic(auto)]
+
 ghost use Rattle.std.specs.Prelude.{◌≡◌, false};
 ghost use Rattle.refusals.specs.Outcome.{good, check, refusal_of};
 ghost use Rattle.refusals.specs.Sweep.{done};

@@ -1,5 +1,7 @@
 // What programs print, as text in a lent buffer: the listing of a plan file (docs/RULES.md, section 16), the line of a fix, and the lines of a
 // load, a note and a write.
+#![tactic(auto)]
+
 ghost use Rattle.std.specs.Prelude.{◌≡◌, ◌++◌, ◌+◌, ◌*◌, ◌≤◌, ◌<◌, length};
 ghost use Rattle.text.specs.Written.{Wrote};
 ghost use Rattle.text.specs.Parts.{count_text, number_text, refusal_text};

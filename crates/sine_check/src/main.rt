@@ -1,4 +1,5 @@
 // Compares the course table with sines worked out another way: not by a series, but by turning a vector by one unit 1,024 times.
+#![tactic(auto)]
 
 // Room for the one line.
 const LINE_ROOM: usize = 64;

@@ -1,4 +1,6 @@
 // What the program strip_listing prints, as text in a lent buffer: the strip listing of a plan file (docs/RULES.md, section 16).
+#![tactic(auto)]
+
 ghost use Rattle.std.specs.Prelude.{◌≡◌, ◌+◌, ◌*◌, ◌≤◌, length};
 ghost use Rattle.text.specs.Written.{Wrote};
 ghost use Rattle.strips.specs.Check.{check_of};

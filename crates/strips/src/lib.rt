@@ -1,5 +1,7 @@
 // Strip plans (docs/RULES.md, section 20): whether a state's plan is one, and the row of each strip. Points and courses are lent: nothing is copied
 // to ask a question of it.
+#![tactic(auto)]
+
 ghost use Rattle.std.specs.Prelude.{◌≡◌, ◌≤◌, ◌<◌};
 ghost use Rattle.refusals.specs.Outcome.{refusal_of};
 ghost use Rattle.course.specs.Vectors.{Near};

@@ -1,5 +1,7 @@
 // Text, written into a lent buffer from a place on. Each function answers the place behind what it wrote; specs/Digits and specs/Parts have the
 // texts, specs/Written what is left of the buffer.
+#![tactic(auto)]
+
 ghost use Rattle.std.specs.Prelude.{◌≡◌, [], ◌∷◌, ◌+◌, ◌*◌, ◌≤◌, ◌<◌, length};
 ghost use Rattle.std.specs.Float.{binary32};
 ghost use Rattle.std.specs.Float.Ieee.{of_bits};

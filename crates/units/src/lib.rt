@@ -1,4 +1,6 @@
 // Between f32 metres and whole decimetres, both ways, and directions as f32 (docs/RULES.md, 9.1, 9.4 and 9.5).
+#![tactic(auto)]
+
 ghost use Rattle.std.specs.Prelude.{◌≡◌, ◌≤◌, not, T, nat_abs};
 ghost use Rattle.std.specs.Int.Signed.{non_neg};
 ghost use Rattle.std.specs.Float.{binary32};

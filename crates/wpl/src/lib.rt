@@ -1,4 +1,6 @@
 // Plan files: load, write, and the notes of a file (docs/RULES.md, sections 5 and 6).
+#![tactic(auto)]
+
 ghost use Rattle.std.specs.Prelude.{◌≡◌, ◌+◌, ◌≤◌, length, take, drop};
 ghost use Rattle.conditions.specs.All.{All};
 ghost use Rattle.refusals.specs.Outcome.{good, refused, refusal_of};

@@ -1,4 +1,6 @@
 // The bytes of a plan file (docs/RULES.md, 5.1): the header, the radius, then the points, each with its course.
+#![tactic(auto)]
+
 ghost use Rattle.std.specs.Prelude.{◌≡◌, List, [], ◌∷◌, ℕ, ◌+◌, ◌≤◌, ◌<◌, ℤ, length};
 ghost use Rattle.plan.specs.Limits.{most_points};
 ghost use Rattle.plan.specs.Places.{place_at, course_at, seen};

@@ -8,13 +8,7 @@ use mir.Facts.{to_z-of_z}
 use Rattle.integers.proofs.BoundLaws.{overflow}
 use Rattle.integers.proofs.Tests.{to-u64}
 use Rattle.integers.proofs.WrapLaws.{rem-within, quot_fits, wrap-nonneg, wrap-is}
-use Rattle.integers.proofs.wrap.Statement.{statement}
-use Rattle.integers.proofs.wrap.Tie as tie
-
-rem-result : tie.Need-nonzero-rem-result
-rem-result c =
-    let fx = c.ranges.x in
-    (lit< tt, simp to_z-of_z (quot_fits c.args.x fx))
+use Rattle.integers.proofs.wrap.Goals as goal
 
 -- the remainder and the sum fit
 rem-fits : (x : ℤ) → SFits w64 (rem_z x (pos 4096))
@@ -27,28 +21,30 @@ sum_fits x =
     let h = rem-within x in
     search overflow depth 20 fits 5000
 
-add-result : tie.Need-overflow-add-result
-add-result c =
+pub nonzero_rem-result : goal.nonzero_rem-result
+nonzero_rem-result c =
+    let fx = c.ranges.x in
+    (lit< tt, simp to_z-of_z (quot_fits c.args.x fx))
+
+pub overflow_add-result : goal.overflow_add-result
+overflow_add-result c =
     let x = c.args.x in
     let fx = c.ranges.x in
     let f = rem-fits x in
     simp to_z-of_z (sum_fits x)
 
-cast-result : tie.Need-overflow-cast-result
-cast-result c =
+pub overflow_cast-result : goal.overflow_cast-result
+overflow_cast-result c =
     let x = c.args.x in
     let fx = c.ranges.x in
     let f = rem-fits x in
     let g = sum_fits x in
     simp to_z-of_z (to-u64 (rem_z x (pos 4096) +ℤ pos 4096) (wrap-nonneg x) g)
 
-returns : tie.Need-returns
+pub returns : goal.returns
 returns c =
     let x = c.args.x in
     let fx = c.ranges.x in
     let f = rem-fits x in
     let g = sum_fits x in
     simp to_z-of_z (wrap-is x)
-
-pub wrap_spec : {M : Type 1} → statement M
-wrap_spec = tie.close (tie.spec rem-result add-result cast-result returns)

@@ -14,8 +14,8 @@ use borrow.Author.Rules.{rules}
 use Rattle.integers.proofs.Magnitudes.{abs_neg, mag-le}
 use Rattle.integers.proofs.Ring.{v, lit, neg, add, sub, same, le}
 use Rattle.integers.proofs.Tests.{lt_yes, lt_no, to-u64}
-use Rattle.integers.proofs.magnitude.Statement.{statement}
-use Rattle.integers.proofs.magnitude.Tie as tie
+use Rattle.integers.proofs.magnitude.Goals as goal
+use Rattle.integers.proofs.magnitude.Goals.{Then-x-lt0}
 
 record Negative (x : ℤ) : Type 0 where
   next : SFits w64 (x +ℤ pos 1)
@@ -41,58 +41,50 @@ negative (negsuc n) h f =
     }
 
 -- what is known where x is negative
-known : (c : tie.Then1) → Negative c.before.args.x
+known : (c : Then-x-lt0) → Negative c.args.x
 known c =
-    let x = c.before.args.x in
-    let fx = c.before.ranges.x in
-    negative x (lt_yes x (pos 0) (simp to_z-of_z at c.if1.true)) fx
+    let x = c.args.x in
+    let fx = c.ranges.x in
+    negative x (lt_yes x (pos 0) (simp to_z-of_z at c.if-x-lt0.true)) fx
 
-add-result : tie.Need-overflow-add-result
-add-result c =
-    let fx = c.before.ranges.x in
+pub overflow_add-result : goal.overflow_add-result
+overflow_add-result c =
+    let fx = c.ranges.x in
     simp to_z-of_z (known c).next
 
-sub-result : tie.Need-overflow-sub-result
-sub-result c =
-    let fx = c.before.ranges.x in
+pub overflow_sub-result : goal.overflow_sub-result
+overflow_sub-result c =
+    let fx = c.ranges.x in
     let n = known c in
     let f = n.next in
     simp to_z-of_z n.fits
 
-cast-result : tie.Need-overflow-cast-result
-cast-result c =
-    let fx = c.before.ranges.x in
+pub overflow_cast-result : goal.overflow_cast-result
+overflow_cast-result c =
+    let fx = c.ranges.x in
     let n = known c in
     let f = n.next in
     let g = n.fits in
-    simp to_z-of_z (to-u64 (pos 0 -ℤ (c.before.args.x +ℤ pos 1)) n.nonneg g)
+    simp to_z-of_z (to-u64 (pos 0 -ℤ (c.args.x +ℤ pos 1)) n.nonneg g)
 
-add-result-2 : tie.Need-overflow-add-result-2
-add-result-2 c =
-    let fx = c.before.ranges.x in
+pub overflow_add-result-then-x-lt0 : goal.overflow_add-result-then-x-lt0
+overflow_add-result-then-x-lt0 c =
+    let fx = c.ranges.x in
     let n = known c in
     let f = n.next in
     let g = n.fits in
     simp to_z-of_z (omega arith)
 
-cast-result-2 : tie.Need-overflow-cast-result-2
-cast-result-2 c =
-    let x = c.before.args.x in
-    let fx = c.before.ranges.x in
-    simp to_z-of_z (to-u64 x (lt_no x (pos 0) (simp to_z-of_z at c.if1.false)) fx)
+pub overflow_cast-result-else-x-lt0 : goal.overflow_cast-result-else-x-lt0
+overflow_cast-result-else-x-lt0 c =
+    let x = c.args.x in
+    let fx = c.ranges.x in
+    simp to_z-of_z (to-u64 x (lt_no x (pos 0) (simp to_z-of_z at c.if-x-lt0.false)) fx)
 
-returns : tie.Need-returns
-returns c =
-    let fx = c.before.ranges.x in
+pub returns-then-x-lt0 : goal.returns-then-x-lt0
+returns-then-x-lt0 c =
+    let fx = c.ranges.x in
     let n = known c in
     let f = n.next in
     let g = n.fits in
     simp to_z-of_z n.value
-
-returns-2 : tie.Need-returns-2
-returns-2 c = search rules
-
-pub magnitude-spec : {M : Type 1} → statement M
-magnitude-spec =
-    tie.close
-    (tie.spec add-result sub-result cast-result add-result-2 cast-result-2 returns returns-2)
