@@ -233,8 +233,9 @@ signed_range w = range-dec (bearing_of w) (bearing-low w) (dec_lt (bearing_of w)
 pub signed-within : (z : ℤ) → IsSigned z → Within 2048 z
 signed-within z h = within-range 2048 z h.least (le (v z) (lit 2048) (omega (arith, le_of (v z) (lit 2047) h.most)))
 
--- an equation, and the range of what it says
-pub signed-carried : {r : ℤ} (w : Vector) → r ≡ signed_bearing_of w → (r ≡ signed_bearing_of w) × (Within 2048 r × IsSigned r)
-signed-carried w e =
-    let h = subst IsSigned (sym e) (signed_range w) in
-    (e, (signed-within _ h, h))
+-- the range of what an equation says
+pub signed-carried : {r : ℤ} (w : Vector) → r ≡ signed_bearing_of w → IsSigned r
+signed-carried w e = subst IsSigned (sym e) (signed_range w)
+
+pub near-carried : {r : ℤ} (w : Vector) → r ≡ signed_bearing_of w → Within 2048 r
+near-carried w e = signed-within _ (signed-carried w e)

@@ -1,11 +1,10 @@
 -- A vector by the signs and magnitudes of its parts: which quarter turn of two naturals it is. Assumes nothing.
 use mathlib.Core.Path.{◌≡◌, refl}
-use Prim.Native.Nat.{ℕ, zero, suc, ◌<◌}
+use Prim.Native.Nat.{zero, suc, ◌<◌}
 use native.Mathlib.Omega.{arith}
 use lib.Dec.{ltb→lt, leb→le}
 use lib.IntN.{ℤ, pos, negsuc, nat_abs}
 use lib.Signed.{◌≤ℤ◌, ◌<ℤ◌}
-use Rattle.course.specs.declared.Vector.{Vector}
 use Rattle.course.specs.Vectors.{plain}
 use Rattle.course.specs.Direction.{quarter, turned}
 

@@ -8,7 +8,7 @@ use native.Mathlib.Omega.{arith}
 use native.Mathlib.Decide.{dec_lt}
 use lib.IntN.{ℤ, pos, ◌-ℤ◌}
 use lib.Signed.{◌≤ℤ◌, ◌<ℤ◌}
-use Rattle.integers.proofs.Ring.{v, lit, add, sub, neg, mul, same, diff-nonneg, diff-negative, nonneg-diff, negative-diff}
+use Rattle.integers.proofs.Ring.{lit, sub, neg, mul, same, diff-nonneg, diff-negative, nonneg-diff, negative-diff}
 use Rattle.course.specs.declared.Vector.{Vector}
 use Rattle.course.specs.Vectors.{plain, cross}
 use Rattle.course.specs.Direction.{quarter, turned}

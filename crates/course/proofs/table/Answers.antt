@@ -1,12 +1,11 @@
 -- `table` gives S: the prover works out the 1,025 values of the definition, and they are the constant. Assumes nothing.
 use mathlib.Core.Path.{◌≡◌, ap, ◌∙◌}
 use mathlib.Core.List.{List, [], ◌∷◌}
-use Prim.Native.Nat.{ℕ, zero, suc, ◌+◌, ◌<◌, ◌≤◌}
+use Prim.Native.Nat.{ℕ, zero, suc, ◌+◌, ◌<◌}
 use native.Mathlib.Omega.{arith}
 use lib.ListN.{get_or}
 use Rattle.course.specs.Table.{series, scaled_sine, sine_of, Sines}
-use Rattle.course.proofs.table.Statement.{statement}
-use Rattle.course.proofs.table.Tie as tie
+use Rattle.course.proofs.table.Goals as goal
 
 -- the values of f from i on, n of them
 values : (ℕ → ℕ) → ℕ → ℕ → List ℕ
@@ -23,9 +22,6 @@ sines : Sines (values sine_of 0 1025)
 sines k h = values-at sine_of 1025 0 k (omega arith) ∙ ap sine_of {x = 0 + k} {y = k} (omega arith)
 
 -- the constant's list is `values sine_of 0 1025` by computing
-returns : tie.Need-returns
+pub returns : goal.returns
 unfolding values series scaled_sine sine_of
 returns c = sines
-
-pub table-spec : {M : Type 1} → statement M
-table-spec = tie.close (tie.spec returns)

@@ -5,7 +5,6 @@ use native.Mathlib.Omega.{arith}
 use lib.IntN.{ℤ, pos, ◌*ℤ◌}
 use mir.Syntax.{w64}
 use mir.Val.{to_z, of_z}
-use borrow.Author.Rules.{rules}
 use Rattle.integers.specs.Bounds.{Within}
 use Rattle.integers.specs.Round.{nearest_of}
 use Rattle.integers.proofs.BoundLaws.{within-le, kept}
@@ -15,27 +14,16 @@ use Rattle.course.specs.Direction.{direction_of}
 use Rattle.course.specs.Offset.{offset_of}
 use Rattle.course.proofs.VectorLaws.{vector, carried}
 use Rattle.course.proofs.OffsetLaws.{offset_near}
-use Rattle.course.proofs.offset.Statement.{statement}
-use Rattle.course.proofs.offset.Tie as tie
+use Rattle.course.proofs.offset.Goals as goal
 
-direction-requires : tie.Need-direction-requires
-direction-requires c κs = search rules
-
-scaled-by-requires : tie.Need-scaled-by-requires
-scaled-by-requires c κs = search rules
-
-scaled-by-requires-2 : tie.Need-scaled-by-requires-2
-scaled-by-requires-2 c κs = search rules
-
-returns : tie.Need-returns
+pub returns : goal.returns
 unfolding offset_of
 returns c =
-    let s = c.before.before.before.before.before in
-    let m = s.args.m in
-    let k = s.args.k in
-    let d = c.before.before.before.before.direction in
-    let x = c.before.before.scaled-by in
-    let y = c.scaled-by2 in
+    let m = c.args.m in
+    let k = c.args.k in
+    let d = c.direction-d in
+    let x = c.scaled_by-north in
+    let y = c.scaled_by-east in
     let h : m ≤ 2147483647 = omega arith in
     let hx : Within 2147483647 x.result = within-le h x.ensures.1 in
     let hy : Within 2147483647 y.result = within-le h y.ensures.1 in
@@ -44,6 +32,3 @@ returns c =
     let rn : to_z w64 (of_z w64 x.result) ≡ x.result = kept w64 hx tt in
     let re : to_z w64 (of_z w64 y.result) ≡ y.result = kept w64 hy tt in
     carried (vector (rn ∙ x.ensures.0 ∙ ap (λ (z : ℤ). nearest_of (pos m *ℤ z)) dn) (re ∙ y.ensures.0 ∙ ap (λ (z : ℤ). nearest_of (pos m *ℤ z)) de)) (offset_near m k)
-
-pub offset-spec : {M : Type 1} → statement M
-offset-spec = tie.close (tie.spec direction-requires scaled-by-requires scaled-by-requires-2 returns)

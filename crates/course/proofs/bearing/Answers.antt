@@ -7,7 +7,6 @@ use lib.IntN.{ℤ, pos, nat_abs}
 use lib.Signed.{lt_z, ◌≤ℤ◌, ◌<ℤ◌}
 use mir.Syntax.{w64}
 use mir.Val.{to_z, of_z}
-use borrow.Author.Rules.{rules}
 use Rattle.integers.proofs.BoundLaws.{kept}
 use Rattle.integers.proofs.Ring.{lt-le}
 use Rattle.integers.proofs.Tests.{lt_yes, lt_no}
@@ -18,8 +17,8 @@ use Rattle.course.specs.Bearing.{bearing_of}
 use Rattle.course.proofs.VectorLaws.{vector}
 use Rattle.course.proofs.BearingLaws.{bears, bearing-nought}
 use Rattle.course.proofs.QuarterLaws.{nought, positive-size, negative-size, north-east, south-east, south-west, north-west}
-use Rattle.course.proofs.bearing.Statement.{statement}
-use Rattle.course.proofs.bearing.Tie as tie
+use Rattle.course.proofs.bearing.Goals as goal
+use Rattle.course.proofs.bearing.Goals.{After-magnitude-b, Else-east-lt0, Then-east-gt0, Then-east-lt0, Then-east-lt0-2, Then-north-lt0}
 
 -- what is known once the magnitudes are there, of v = (n, e): the machine reads the parts as they are, and a and b are their magnitudes
 record Parts (n e : ℤ) (a b : ℕ) : Type 0 where
@@ -30,16 +29,16 @@ record Parts (n e : ℤ) (a b : ℕ) : Type 0 where
   low-n : a < 2 ^ 48
   low-e : b < 2 ^ 48
 
-abbrev vector_at : tie.After-magnitude2 → Vector
-vector_at c = c.before.before.before.before.args.v
+abbrev vector_at : After-magnitude-b → Vector
+vector_at c = c.args.v
 
-parts : (c : tie.After-magnitude2) → Parts (vector_at c).north (vector_at c).east c.before.magnitude.result c.magnitude2.result
+parts : (c : After-magnitude-b) → Parts (vector_at c).north (vector_at c).east c.magnitude-a.result c.magnitude-b.result
 parts c =
-    let p = c.before.before.before.before.requires in
+    let p = c.requires in
     let rn = kept w64 p.north tt in
     let re = kept w64 p.east tt in
-    let an = c.before.magnitude.ensures ∙ ap nat_abs rn in
-    let ae = c.magnitude2.ensures ∙ ap nat_abs re in
+    let an = c.magnitude-a.ensures ∙ ap nat_abs rn in
+    let ae = c.magnitude-b.ensures ∙ ap nat_abs re in
     record { read-n = rn; read-e = re; size-n = an; size-e = ae; low-n = omega (arith, an); low-e = omega (arith, ae) }
 
 -- ---- the tests of the code, of a part that is read as it is
@@ -79,105 +78,81 @@ module _ {n e : ℤ} {a b : ℕ} (p : Parts n e a b) where
   arm-3 : pos 0 ≤ℤ n → e <ℤ pos 0 → Arm 3 b a n e
   arm-3 h k = swapped 3 (negative-size e k) (north-west n e h k)
 
-magnitude-requires : tie.Need-magnitude-requires
-magnitude-requires c κs = search rules
-
-magnitude-requires-2 : tie.Need-magnitude-requires-2
-magnitude-requires-2 c κs = search rules
-
 -- each arm at its place in the code
-abbrev Straight : ℕ → tie.After-magnitude2 → Type 0
-Straight q m = Arm q m.before.magnitude.result m.magnitude2.result (vector_at m).north (vector_at m).east
+abbrev Straight : ℕ → After-magnitude-b → Type 0
+Straight q m = Arm q m.magnitude-a.result m.magnitude-b.result (vector_at m).north (vector_at m).east
 
-abbrev Swapped : ℕ → tie.After-magnitude2 → Type 0
-Swapped q m = Arm q m.magnitude2.result m.before.magnitude.result (vector_at m).north (vector_at m).east
+abbrev Swapped : ℕ → After-magnitude-b → Type 0
+Swapped q m = Arm q m.magnitude-b.result m.magnitude-a.result (vector_at m).north (vector_at m).east
 
-north-of-west : (c : tie.Then2) → Swapped 3 c.before.before
+north-of-west : (c : Then-east-lt0) → Swapped 3 c.before.before
 north-of-west c =
     let p = parts c.before.before in
-    arm-3 p (lt-le (above _ p.read-n c.before.if1.true)) (below _ p.read-e c.if2.true)
+    arm-3 p (lt-le (above _ p.read-n c.if-north-gt0.true)) (below _ p.read-e c.if-east-lt0.true)
 
-north-to-east : (c : tie.Else2) → Straight 0 c.before.before
+north-to-east : (c : Else-east-lt0) → Straight 0 c.before.before
 north-to-east c =
     let p = parts c.before.before in
-    arm-0 p (above _ p.read-n c.before.if1.true) (not-below _ p.read-e c.if2.false)
+    arm-0 p (above _ p.read-n c.if-north-gt0.true) (not-below _ p.read-e c.if-east-lt0.false)
 
-east-to-south : (c : tie.Then3) → Swapped 1 c.before.before
+east-to-south : (c : Then-east-gt0) → Swapped 1 c.before.before
 east-to-south c =
     let p = parts c.before.before in
-    arm-1 p (not-above _ p.read-n c.before.if1.false) (above _ p.read-e c.if3.true)
+    arm-1 p (not-above _ p.read-n c.if-north-gt0.false) (above _ p.read-e c.if-east-gt0.true)
 
-south-to-west : (c : tie.Then4) → Straight 2 c.before.before.before
+south-to-west : (c : Then-north-lt0) → Straight 2 c.before.before.before
 south-to-west c =
     let p = parts c.before.before.before in
-    arm-2 p (below _ p.read-n c.if4.true) (not-above _ p.read-e c.before.if3.false)
+    arm-2 p (below _ p.read-n c.if-north-lt0.true) (not-above _ p.read-e c.if-east-gt0.false)
 
-due-west : (c : tie.Then5) → Swapped 3 c.before.before.before.before
+due-west : (c : Then-east-lt0-2) → Swapped 3 c.before.before.before.before
 due-west c =
     let p = parts c.before.before.before.before in
-    arm-3 p (not-below _ p.read-n c.before.if4.false) (below _ p.read-e c.if5.true)
+    arm-3 p (not-below _ p.read-n c.if-north-lt0.false) (below _ p.read-e c.if-east-lt0-2.true)
 
-bearing-in-requires : tie.Need-bearing-in-requires
-bearing-in-requires c κs =
+pub bearing_in-requires : goal.bearing_in-requires
+bearing_in-requires c =
     let p = parts c.before.before in
     (omega arith, ((north-of-west c).some, (p.low-e, p.low-n)))
 
-bearing-in-requires-2 : tie.Need-bearing-in-requires-2
-bearing-in-requires-2 c κs =
+pub bearing_in-requires-else-east-lt0 : goal.bearing_in-requires-else-east-lt0
+bearing_in-requires-else-east-lt0 c =
     let p = parts c.before.before in
     (omega arith, ((north-to-east c).some, (p.low-n, p.low-e)))
 
-bearing-in-requires-3 : tie.Need-bearing-in-requires-3
-bearing-in-requires-3 c κs =
+pub bearing_in-requires-then-east-gt0 : goal.bearing_in-requires-then-east-gt0
+bearing_in-requires-then-east-gt0 c =
     let p = parts c.before.before in
     (omega arith, ((east-to-south c).some, (p.low-e, p.low-n)))
 
-bearing-in-requires-4 : tie.Need-bearing-in-requires-4
-bearing-in-requires-4 c κs =
+pub bearing_in-requires-then-north-lt0 : goal.bearing_in-requires-then-north-lt0
+bearing_in-requires-then-north-lt0 c =
     let p = parts c.before.before.before in
     (omega arith, ((south-to-west c).some, (p.low-n, p.low-e)))
 
-bearing-in-requires-5 : tie.Need-bearing-in-requires-5
-bearing-in-requires-5 c κs =
+pub bearing_in-requires-then-east-lt0-2 : goal.bearing_in-requires-then-east-lt0-2
+bearing_in-requires-then-east-lt0-2 c =
     let p = parts c.before.before.before.before in
     (omega arith, ((due-west c).some, (p.low-e, p.low-n)))
 
-returns : tie.Need-returns
-returns c = bears _ _ (c.bearing-in.ensures ∙ (north-of-west c.before).value)
+pub returns-then-east-lt0 : goal.returns-then-east-lt0
+returns-then-east-lt0 c = bears _ _ (c.bearing_in.ensures ∙ (north-of-west c.before).value)
 
-returns-2 : tie.Need-returns-2
-returns-2 c = bears _ _ (c.bearing-in2.ensures ∙ (north-to-east c.before).value)
+pub returns-else-east-lt0 : goal.returns-else-east-lt0
+returns-else-east-lt0 c = bears _ _ (c.bearing_in-else-east-lt0.ensures ∙ (north-to-east c.before).value)
 
-returns-3 : tie.Need-returns-3
-returns-3 c = bears _ _ (c.bearing-in3.ensures ∙ (east-to-south c.before).value)
+pub returns-then-east-gt0 : goal.returns-then-east-gt0
+returns-then-east-gt0 c = bears _ _ (c.bearing_in-then-east-gt0.ensures ∙ (east-to-south c.before).value)
 
-returns-4 : tie.Need-returns-4
-returns-4 c = bears _ _ (c.bearing-in4.ensures ∙ (south-to-west c.before).value)
+pub returns-then-north-lt0 : goal.returns-then-north-lt0
+returns-then-north-lt0 c = bears _ _ (c.bearing_in-then-north-lt0.ensures ∙ (south-to-west c.before).value)
 
-returns-5 : tie.Need-returns-5
-returns-5 c = bears _ _ (c.bearing-in5.ensures ∙ (due-west c.before).value)
+pub returns-then-east-lt0-2 : goal.returns-then-east-lt0-2
+returns-then-east-lt0-2 c = bears _ _ (c.bearing_in-then-east-lt0-2.ensures ∙ (due-west c.before).value)
 
-returns-6 : tie.Need-returns-6
-returns-6 c =
+pub returns-else-east-lt0-2 : goal.returns-else-east-lt0-2
+returns-else-east-lt0-2 c =
     let p = parts c.before.before.before.before in
-    let n = nought _ (not-above _ p.read-n c.before.before.before.if1.false) (not-below _ p.read-n c.before.if4.false) in
-    let e = nought _ (not-above _ p.read-e c.before.before.if3.false) (not-below _ p.read-e c.if5.false) in
+    let n = nought _ (not-above _ p.read-n c.if-north-gt0.false) (not-below _ p.read-n c.if-north-lt0.false) in
+    let e = nought _ (not-above _ p.read-e c.if-east-gt0.false) (not-below _ p.read-e c.if-east-lt0-2.false) in
     bears _ _ (sym bearing-nought ∙ ap bearing_of (sym (vector n e)))
-
-pub bearing-spec : {M : Type 1} → statement M
-bearing-spec =
-    tie.close
-    (tie.spec
-    magnitude-requires
-    magnitude-requires-2
-    bearing-in-requires
-    bearing-in-requires-2
-    bearing-in-requires-3
-    bearing-in-requires-4
-    bearing-in-requires-5
-    returns
-    returns-2
-    returns-3
-    returns-4
-    returns-5
-    returns-6)

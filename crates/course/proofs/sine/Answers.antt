@@ -1,0 +1,7 @@
+-- `sine` gives S[k], of the table of which 2.2 and 2.5 hold. Assumes nothing.
+use Rattle.course.proofs.TableLaws.{are-sines}
+use Rattle.course.proofs.DirectionLaws.{table-facts}
+use Rattle.course.proofs.sine.Goals as goal
+
+pub returns : goal.returns
+returns c = record { value = c.entry.ensures; are_sines = (are-sines, table-facts) }
