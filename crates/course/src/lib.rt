@@ -11,7 +11,7 @@ ghost use Rattle.course.specs.Bearing.{edge_north, edge_east, Reached, Bears, be
 ghost use Rattle.course.specs.Offset.{offset_of};
 
 // A level vector, in decimetres or, of a direction, in 1/16,384.
-#[derive(Drop)]
+#[derive(Clone, Copy)]
 pub struct Vector {
     pub north: i64,
     pub east: i64,

@@ -20,7 +20,7 @@ use plan::{Head, LevelLeg, Mode};
 use refusals::Refusal;
 
 // What is left from the index of a state on, in decimetres; 0 where that is refused.
-#[derive(Drop)]
+#[derive(Clone, Copy)]
 pub struct Measured {
     pub refusal: u8,
     pub place: usize,
@@ -28,7 +28,7 @@ pub struct Measured {
 }
 
 // A corner of a fillet plan: the length of its arc and its tangent length, and the leg to it.
-#[derive(Drop)]
+#[derive(Clone, Copy)]
 struct Rounding {
     arc: u64,
     tangent: u64,
@@ -36,7 +36,7 @@ struct Rounding {
 }
 
 // What the pass carries to the leg that ends at a place: all that lies behind it, and in fillets the corner there, which is not in that yet.
-#[derive(Drop)]
+#[derive(Clone, Copy)]
 struct Carry {
     left: u64,
     corner: Rounding,

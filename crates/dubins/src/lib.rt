@@ -19,7 +19,7 @@ use course::Vector;
 use plane::Point;
 
 // The ends of a leg: its points, the courses to leave and to arrive on, the radius of the circles.
-#[derive(Drop)]
+#[derive(Clone, Copy)]
 pub struct Ends {
     pub start: Point,
     pub leave: usize,
@@ -29,14 +29,14 @@ pub struct Ends {
 }
 
 // The centres of the circles to the right and to the left of an end of a leg.
-#[derive(Drop)]
+#[derive(Clone, Copy)]
 struct Centres {
     right: Vector,
     left: Vector,
 }
 
 // The circles of a case: their centres, and v from the start's to the end's.
-#[derive(Drop)]
+#[derive(Clone, Copy)]
 struct Circles {
     start: Vector,
     end: Vector,
@@ -45,7 +45,7 @@ struct Circles {
 
 // A leg by one case, 1 to 4 for RSR, RSL, LSR, LSL: the centres of its circles, the course of the straight part from z1 to z2, the
 // length of the whole.
-#[derive(Drop)]
+#[derive(Clone, Copy)]
 pub struct Path {
     pub case: u8,
     pub course: usize,
@@ -57,7 +57,7 @@ pub struct Path {
 }
 
 // A path without z1 and z2, which only the shortest needs.
-#[derive(Drop)]
+#[derive(Clone, Copy)]
 struct Way {
     case: u8,
     course: usize,
@@ -67,14 +67,14 @@ struct Way {
 }
 
 // The way of a case, or that the case does not exist.
-#[derive(Drop)]
+#[derive(Clone, Copy)]
 enum Tried {
     Exists(Way),
     Absent,
 }
 
 // The shortest of the cases that were asked for, or that none of them exists.
-#[derive(Drop)]
+#[derive(Clone, Copy)]
 pub enum Found {
     Shortest(Path),
     Missing,

@@ -10,7 +10,7 @@ use course::Vector;
 use plane::Point;
 
 // The arc of a corner: its tangent length, whether it turns right (sense +1), where the line ends and begins again, and its centre.
-#[derive(Drop)]
+#[derive(Clone, Copy)]
 pub struct Corner {
     pub tangent: u64,
     pub right: bool,

@@ -48,7 +48,7 @@ const MOST_FIXES: u64 = 1152921504606846976;
 // Room for a line that is no fix's.
 const LINE_ROOM: usize = 64;
 
-#[derive(Drop)]
+#[derive(Clone, Copy)]
 enum Parsed {
     Number(u32),
     Nothing,

@@ -16,7 +16,7 @@ use fillets::Corner;
 use plane::{Leg, Point};
 
 // A place or a direction, in metres.
-#[derive(Drop)]
+#[derive(Clone, Copy)]
 pub struct Metres {
     pub north: f32,
     pub east: f32,
@@ -24,7 +24,7 @@ pub struct Metres {
 }
 
 // What the autopilot is to follow. Sense is +1 for clockwise and -1 for the other way; Nothing where a fix is refused.
-#[derive(Drop)]
+#[derive(Clone, Copy)]
 pub enum Command {
     Line {
         start: Metres,
@@ -39,7 +39,7 @@ pub enum Command {
 }
 
 // The command and heading of a phase at a position, and whether the position ends the phase.
-#[derive(Drop)]
+#[derive(Clone, Copy)]
 pub struct Guidance {
     pub command: Command,
     pub heading: usize,

@@ -111,14 +111,14 @@ pub fn wrap(x: i64) -> usize
 }
 
 // high * 2^42 + low
-#[derive(Drop)]
+#[derive(Clone, Copy)]
 pub struct Wide {
     pub high: u64,
     pub low: u64,
 }
 
 // high * 2^84 + middle * 2^42 + low
-#[derive(Drop)]
+#[derive(Clone, Copy)]
 pub struct Triple {
     pub high: u64,
     pub middle: u64,

@@ -26,7 +26,7 @@ use plane::Point;
 use units::{Fix, Position};
 
 // How far a plan is flown: the index of the point that is flown to, from 1, the phase there, and whether the end was reached.
-#[derive(Drop)]
+#[derive(Clone, Copy)]
 pub struct Progress {
     pub index: usize,
     pub phase: u8,
@@ -41,7 +41,7 @@ pub struct State {
 }
 
 // What a fix is answered. The refusal is a number of section 7, 0 for none.
-#[derive(Drop)]
+#[derive(Clone, Copy)]
 pub struct Answer {
     pub refusal: u8,
     pub place: usize,
@@ -53,7 +53,7 @@ pub struct Answer {
 }
 
 // The answer, and how far the plan is flown after it.
-#[derive(Drop)]
+#[derive(Clone, Copy)]
 pub struct Decided {
     pub answer: Answer,
     pub progress: Progress,

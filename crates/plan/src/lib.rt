@@ -43,7 +43,7 @@ const LAST_COURSE: u32 = FULL_CIRCLE as u32 - 1;
 // The greatest turn of a fillet corner.
 pub const MOST_TURN: usize = 1792;
 
-#[derive(Drop)]
+#[derive(Clone, Copy)]
 pub enum Mode {
     Lines,
     Fillets,
@@ -51,7 +51,7 @@ pub enum Mode {
 }
 
 // What a plan is beside its points.
-#[derive(Drop)]
+#[derive(Clone, Copy)]
 pub struct Head {
     pub serial: u32,
     pub mode: Mode,
@@ -70,7 +70,7 @@ pub struct Plan {
 }
 
 // A leg in north and east: its bearing and its squared length.
-#[derive(Drop)]
+#[derive(Clone, Copy)]
 pub struct LevelLeg {
     pub bearing: usize,
     pub squared: u64,

@@ -12,7 +12,7 @@ ghost use Rattle.plane.specs.Half.{dot3_of, square3_of, half_plane, HandHalves, 
 use course::Vector;
 
 // A point of a plan or a position, in decimetres.
-#[derive(Drop)]
+#[derive(Clone, Copy)]
 pub struct Point {
     pub north: i32,
     pub east: i32,
@@ -20,7 +20,7 @@ pub struct Point {
 }
 
 // What lies from one point to another.
-#[derive(Drop)]
+#[derive(Clone, Copy)]
 pub struct Leg {
     pub north: i64,
     pub east: i64,
@@ -112,7 +112,7 @@ pub fn length(v: Vector) -> u64
     integers::root(squared(v))
 }
 
-// typeof.d.D(k)
+// d·D(k)
 pub fn along(d: Vector, k: usize) -> i64
     requires { Near 2000000 d }
     ensures { (result ≡ dot_of d (direction_of k)) × Within 8000000000000 result }

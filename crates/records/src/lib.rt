@@ -50,7 +50,7 @@ const LEAST_SPEED: usize = 1;
 const MOST_SPEED: usize = 1000;
 
 // A row of the table: a kind, the first version that has it, the least and the greatest length of its body.
-#[derive(Drop)]
+#[derive(Clone, Copy)]
 pub struct Kind {
     pub kind: u8,
     pub since: u16,
@@ -100,7 +100,7 @@ const KINDS: usize = 5;
 const TABLE: [Kind; KINDS] = [POINT_ROW, RADIUS_ROW, COURSE_ROW, NOTE_ROW, SPEED_ROW];
 
 // What a record does to what was gathered before it.
-#[derive(Drop)]
+#[derive(Clone, Copy)]
 enum Effect {
     Nothing,
     AddPoint(Point),
@@ -112,7 +112,7 @@ enum Effect {
 
 // What the records so far give, without the points and courses themselves: the radius, 0 for none; the points and the courses, each counted up
 // to one more than a plan holds; whether the last record, optional ones left out, is a point.
-#[derive(Drop)]
+#[derive(Clone, Copy)]
 struct Tally {
     radius: u16,
     count: usize,

@@ -65,7 +65,7 @@ pub const NOT_STRIPS: u8 = 18;
 pub const MISFIT: u8 = 100;
 
 // A refusal: its number, 0 for none, and its place.
-#[derive(Drop)]
+#[derive(Clone, Copy)]
 pub struct Refusal {
     pub number: u8,
     pub place: usize,

@@ -5,7 +5,7 @@
 const LINE_ROOM: usize = 64;
 
 // The cosine and the sine of a course, of a circle of radius 1.
-#[derive(Drop)]
+#[derive(Clone, Copy)]
 struct Turn {
     cosine: f64,
     sine: f64,

@@ -29,7 +29,7 @@ const ALONG_THE_LEG: u8 = 2;
 const AGAINST_THE_STRIP_BEFORE: u8 = 3;
 
 // What a check answers: its refusal with a place and a rule, or how many strips there are.
-#[derive(Drop)]
+#[derive(Clone, Copy)]
 pub struct Checked {
     pub refusal: u8,
     pub place: usize,
@@ -38,7 +38,7 @@ pub struct Checked {
 }
 
 // The row of a strip: its number from 1, its course, and its length in north and east.
-#[derive(Drop)]
+#[derive(Clone, Copy)]
 pub struct Strip {
     pub number: usize,
     pub course: usize,
@@ -46,7 +46,7 @@ pub struct Strip {
 }
 
 // What is told of strips: the check, and the row of one of them.
-#[derive(Drop)]
+#[derive(Clone, Copy)]
 pub struct Told {
     pub checked: Checked,
     pub strip: Strip,

@@ -13,7 +13,7 @@ ghost use Rattle.units.specs.CheckedExamples.{FixExamples};
 ghost use Rattle.units.specs.Metres.{metres_of, direction_part_of, Exactly, Plain, PlainMeans};
 
 // A position fix, in metres.
-#[derive(Drop)]
+#[derive(Clone, Copy)]
 pub struct Fix {
     pub north: f32,
     pub east: f32,
@@ -21,7 +21,7 @@ pub struct Fix {
 }
 
 // Where a fix is, in decimetres, or that it is refused.
-#[derive(Drop)]
+#[derive(Clone, Copy)]
 pub enum Position {
     At(plane::Point),
     Nowhere,

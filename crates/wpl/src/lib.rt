@@ -55,7 +55,7 @@ pub struct Entered {
 }
 
 // The length of the file that was written, or a refusal with its place and length 0.
-#[derive(Drop)]
+#[derive(Clone, Copy)]
 pub struct Written {
     pub refusal: u8,
     pub place: usize,
@@ -63,7 +63,7 @@ pub struct Written {
 }
 
 // The bytes of a note in its file.
-#[derive(Drop)]
+#[derive(Clone, Copy)]
 enum Span {
     At { start: usize, end: usize },
     Nothing,

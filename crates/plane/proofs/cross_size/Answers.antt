@@ -9,25 +9,7 @@ use Rattle.integers.proofs.BoundLaws.{bound, kept}
 use Rattle.plane.specs.declared.Leg.{Leg}
 use Rattle.plane.specs.Area.{IsLeg}
 use Rattle.plane.specs.Half.{minor_size, cross_size}
-use Rattle.plane.proofs.cross_size.Statement.{statement}
-use Rattle.plane.proofs.cross_size.Tie as tie
-
-minor-size-requires : tie.Need-minor-size-requires
-minor-size-requires c κs =
-    ((search bound depth 20 fits 5000, search bound depth 20 fits 5000), (search bound depth 20 fits 5000, search bound depth 20 fits 5000))
-
-minor-size-requires-2 : tie.Need-minor-size-requires-2
-minor-size-requires-2 c κs =
-    ((search bound depth 20 fits 5000, search bound depth 20 fits 5000), (search bound depth 20 fits 5000, search bound depth 20 fits 5000))
-
-minor-size-requires-3 : tie.Need-minor-size-requires-3
-minor-size-requires-3 c κs = search rules
-
-add-result : tie.Need-overflow-add-result
-add-result c = search rules
-
-add-result-2 : tie.Need-overflow-add-result-2
-add-result-2 c = search rules
+use Rattle.plane.proofs.cross_size.Goals as goal
 
 -- the parts of a leg as the machine reads them
 abbrev read : ℤ → ℤ
@@ -52,19 +34,14 @@ whole a b p q x y z =
     + (y ∙ (λ j. minor_size (p.down j) (p.north j) (q.down j) (q.north j))) i
     + (z ∙ (λ j. minor_size (p.north j) (p.east j) (q.north j) (q.east j))) i)
 
-returns : tie.Need-returns
-returns c =
-    let m = c.before.before.before.before.before in
-    let s = m.before.before.before.before.before.before.before.before.before.before in
-    whole s.args.a s.args.b (kept-leg s.requires.0) (kept-leg s.requires.1) m.before.before.before.before.before.minor-size.ensures.0 m.minor-size2.ensures.0 c.minor-size3.ensures.0
+pub minor_size-north-requires : goal.minor_size-north-requires
+minor_size-north-requires c =
+    ((search bound depth 20 fits 5000, search bound depth 20 fits 5000), (search bound depth 20 fits 5000, search bound depth 20 fits 5000))
 
-pub cross-size-spec : {M : Type 1} → statement M
-cross-size-spec =
-    tie.close
-    (tie.spec
-    minor-size-requires
-    minor-size-requires-2
-    minor-size-requires-3
-    add-result
-    add-result-2
-    returns)
+pub minor_size-east-requires : goal.minor_size-east-requires
+minor_size-east-requires c =
+    ((search bound depth 20 fits 5000, search bound depth 20 fits 5000), (search bound depth 20 fits 5000, search bound depth 20 fits 5000))
+
+pub returns : goal.returns
+returns c =
+    whole c.args.a c.args.b (kept-leg c.requires.0) (kept-leg c.requires.1) c.minor_size-north.ensures.0 c.minor_size-east.ensures.0 c.minor_size-down.ensures.0

@@ -1,0 +1,22 @@
+-- `put_words` copies words to the front of a part. The loop's invariant: as many as were reached are copied, and the rest is what it was.
+-- Assumes nothing.
+use mathlib.Core.Path.{refl}
+use Prim.Native.Nat.{◌-◌}
+use native.Mathlib.Omega.{arith}
+use lib.ListN.{length}
+use borrow.Author.Rules.{rules}
+use Rattle.buffers.proofs.CopyLaws.{Copying, starts, goes_on, ends}
+use Rattle.buffers.proofs.put_words.Goals as goal
+
+pub loop-i-init : goal.loop-i-init
+loop-i-init c = starts _ _
+
+pub loop-i-preserved : goal.loop-i-preserved
+loop-i-preserved c =
+    goes_on _ _ _ c.loop-i.invariant (omega (arith, c.loop-i-test.true)) c.requires refl
+
+pub shape_of-part : goal.shape_of-part
+shape_of-part c = c.loop-i.invariant.kept
+
+pub returns : goal.returns
+returns c = ends _ _ c.loop-i.invariant (omega (arith, c.loop-i-test.false))

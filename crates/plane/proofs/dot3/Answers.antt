@@ -1,0 +1,26 @@
+-- `dot3` gives a·b in three dimensions. Assumes nothing.
+use Rattle.integers.proofs.BoundLaws.{overflow, carried}
+use Rattle.integers.proofs.ValueLaws.{value, is}
+use Rattle.plane.specs.Half.{dot3_of}
+use Rattle.plane.proofs.LegLaws.{dot3-within}
+use Rattle.plane.proofs.dot3.Goals as goal
+
+pub overflow_mul-result : goal.overflow_mul-result
+overflow_mul-result c = search overflow depth 20 fits 5000
+
+pub overflow_mul-result-2 : goal.overflow_mul-result-2
+overflow_mul-result-2 c = search overflow depth 20 fits 5000
+
+pub overflow_add-result : goal.overflow_add-result
+overflow_add-result c = search overflow depth 20 fits 5000
+
+pub overflow_mul-result-3 : goal.overflow_mul-result-3
+overflow_mul-result-3 c = search overflow depth 20 fits 5000
+
+pub overflow_add-result-2 : goal.overflow_add-result-2
+overflow_add-result-2 c = search overflow depth 20 fits 5000
+
+pub returns : goal.returns
+unfolding dot3_of
+returns c =
+    carried (is (search value depth 20 fits 5000)) (dot3-within c.args.a c.args.b c.requires.0 c.requires.1)
