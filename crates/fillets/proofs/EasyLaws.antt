@@ -112,5 +112,5 @@ module _ (a b : Vector) where
       (λ t. easy-right (lt_no (cross a b) (pos 0) t) (lt_yes (pos 0) (pos 5 *ℤ dot_of a b +ℤ cross a b) (easy-not-left t ∙ e)))
 
   -- an equation, and what it says
-  pub easily-carried : {r : Bool} → r ≡ turns_easily a b → (r ≡ turns_easily a b) × (r ≡ true → turn_between a b ≤ easy_turn)
-  easily-carried e = (e, λ t. easily-means (sym e ∙ t))
+  pub easily-carried : {r : Bool} → r ≡ turns_easily a b → r ≡ true → turn_between a b ≤ easy_turn
+  easily-carried e t = easily-means (sym e ∙ t)

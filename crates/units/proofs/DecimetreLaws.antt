@@ -6,7 +6,7 @@ use native.Mathlib.Nat.{le_of_suc-le-suc, div-lt_iff_lt-mul}
 use native.Mathlib.Omega.{arith}
 use lib.IntN.{pos, nat_abs}
 use lib.Dec.{T, leb→le}
-use lib.Ieee.{Float, fin, up, down}
+use lib.Ieee.{Float, fin, up, down, inf, nan}
 use lib.Ieee.Fits.{down_pos}
 use lib.Ieee.Exact.{HasValue}
 use lib.Ieee.Nearest.{div_same}
@@ -23,6 +23,8 @@ nearest-same a b c d p q e =
 
 pub decimetres-value : (x : Float) (s : Bool) (A C : ℕ) → 0 < C → HasValue x s A C → decimetres_of x ≡ signed s (nearest_quotient (A * 10) C)
 unfolding decimetres_of
+decimetres-value nan s A C p v = elim v [ ]
+decimetres-value (inf _) s A C p v = elim v [ ]
 decimetres-value (fin t m e) s A C p v =
     let h : m * up e * 10 * C ≡ A * 10 * down e = omega (arith, v.1) in
     ap (λ (b : Bool). signed b (nearest_quotient (m * up e * 10) (down e))) v.0 ∙ ap (signed s) (nearest-same (m * up e * 10) (down e) (A * 10) C (down_pos e) p h)
@@ -41,6 +43,8 @@ nearest-le a c l p h =
 
 pub decimetres-within : (l : ℕ) (x : Float) → T (in_limit l x) → Within (l * 10) (decimetres_of x)
 unfolding in_limit decimetres_of
+decimetres-within l nan h = elim h [ ]
+decimetres-within l (inf _) h = elim h [ ]
 decimetres-within l (fin s m e) h =
     record {
       within =

@@ -47,6 +47,8 @@ pass false f e = e
 -- both comparisons, by the sign of x: the one that compares two signs passes
 between : (l : ℕ) (L x : Float) → HasValue L false l 1 → (le x L && le (neg L) x) ≡ in_limit l x
 unfolding le neg in_limit
+between l nan x v = elim v [ ]
+between l (inf _) x v = elim v [ ]
 between l (fin true n d) x v = absurd (true≢false v.0)
 between l (fin false n d) nan v = refl
 between l (fin false n d) (inf true) v = refl
@@ -70,15 +72,21 @@ limit_is l x h = between l (of_int binary32 (pos l)) x (converted (pos l) (recor
 -- ---- what is in a limit
 pub limit-number : (l : ℕ) (x : Float) → T (in_limit l x) → T (not (is_nan x))
 unfolding in_limit is_nan
+limit-number l nan h = elim h [ ]
+limit-number l (inf _) h = elim h [ ]
 limit-number l (fin s m e) h = tt
 
 pub limit-le : (l k : ℕ) (x : Float) → l ≤ k → T (in_limit l x) → T (in_limit k x)
 unfolding in_limit
+limit-le l k nan h t = elim t [ ]
+limit-le l k (inf _) h t = elim t [ ]
 limit-le l k (fin s m e) h t = le→leb (m * up e) (k * down e) (le_trans (leb→le (m * up e) (l * down e) t) (mul-le-mul_right (down e) h))
 
 -- its size, as any fraction, is at most the limit
 pub limit-value : (l : ℕ) (x : Float) (s : Bool) (A C : ℕ) → T (in_limit l x) → HasValue x s A C → A ≤ l * C
 unfolding in_limit
+limit-value l nan s A C h v = elim h [ ]
+limit-value l (inf _) s A C h v = elim h [ ]
 limit-value l (fin t m e) s A C h v =
     le_of_mul-le-mul_right
     (le_trans (le_of_eq (sym v.1)) (le_trans (mul-le-mul_right C (leb→le (m * up e) (l * down e) h)) (le_of_eq (mul_right_comm l (down e) C))))

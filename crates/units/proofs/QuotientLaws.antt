@@ -9,7 +9,7 @@ use lib.IntN.{ℤ, pos, negsuc, nat_abs}
 use lib.Signed.{non_neg}
 use lib.Dec.{T, leb, lit<, lit≤}
 use lib.Pow.{pow_pos}
-use lib.Ieee.{Float, fin, binary32, unlike, up, down, div, fits, is_nan, of_int, of_bits, to_bits, round}
+use lib.Ieee.{Float, fin, binary32, unlike, up, down, div, fits, is_nan, of_int, of_bits, to_bits, round, inf, nan}
 use lib.Ieee.Bits.{of_bits-to_bits}
 use lib.Ieee.Fits.{up_pos, down_pos, round_is, round-fits}
 use lib.Ieee.Exact.{HasValue, units_val, round_exact}
@@ -41,6 +41,10 @@ over-plus false = refl
 
 divided : (x y : Float) (s : Bool) (n c : ℕ) → 0 < c → HasValue x s n 1 → HasValue y false c 1 → div binary32 x y ≡ round binary32 s n c
 unfolding div
+divided nan y s n c p v w = elim v [ ]
+divided (inf _) y s n c p v w = elim v [ ]
+divided (fin t m e) nan s n c p v w = elim w [ ]
+divided (fin t m e) (inf _) s n c p v w = elim w [ ]
 divided (fin t m e) (fin true k g) s n c p v w = absurd (true≢false w.0)
 divided (fin t m e) (fin false k g) s n c p v w =
     let h : 0 < k = digits-pos k (up g) 1 c (down g) w.1 p (down_pos g) in
@@ -70,6 +74,8 @@ direction-exact x h =
 -- ---- plain numbers
 plain_value : (x : Float) (s : Bool) (A C : ℕ) → T (fits binary32 x) → HasValue x s A C → (T s → 0 < A) → Plain x
 unfolding is_nan
+plain_value nan s A C f v h = elim v [ ]
+plain_value (inf _) s A C f v h = elim v [ ]
 plain_value (fin t m e) s A C f v h =
     record {
       held = f;

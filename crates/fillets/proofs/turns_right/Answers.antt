@@ -6,15 +6,8 @@ use mir.Syntax.{w64}
 use borrow.Author.Rules.{rules}
 use Rattle.integers.proofs.BoundLaws.{kept}
 use Rattle.fillets.specs.Corners.{right_of}
-use Rattle.fillets.proofs.turns_right.Statement.{statement}
-use Rattle.fillets.proofs.turns_right.Tie as tie
+use Rattle.fillets.proofs.turns_right.Goals as goal
 
-across-requires : tie.Need-across-requires
-across-requires c κs = search rules
-
-returns : tie.Need-returns
+pub returns : goal.returns
 unfolding right_of
 returns c = ap (le_z (pos 0)) (kept w64 c.across.ensures.1 tt ∙ c.across.ensures.0)
-
-pub turns-right-spec : {M : Type 1} → statement M
-turns-right-spec = tie.close (tie.spec across-requires returns)

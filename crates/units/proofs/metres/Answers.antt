@@ -5,20 +5,16 @@ use lib.Ieee.{binary32, of_bits, of_int}
 use Rattle.units.specs.Metres.{metres_of}
 use Rattle.units.proofs.ConversionLaws.{in-float}
 use Rattle.units.proofs.QuotientLaws.{quotient-read, metres-promise}
-use Rattle.units.proofs.metres.Statement.{statement}
-use Rattle.units.proofs.metres.Tie as tie
-
-int-to-float-result : tie.Need-int-to-float-result
-int-to-float-result c = in-float c.before.requires tt
+use Rattle.units.proofs.metres.Goals as goal
 
 -- the code's 10.0
 ten : of_bits binary32 0x4120_0000 ≡ of_int binary32 (pos 10)
 unfolding of_bits of_int
 ten = refl
 
-returns : tie.Need-returns
-unfolding metres_of
-returns c = metres-promise c.before.requires (quotient-read 10 ten c.before.requires tt)
+pub int_to_float-result : goal.int_to_float-result
+int_to_float-result c = in-float c.requires tt
 
-pub metres-spec : {M : Type 1} → statement M
-metres-spec = tie.close (tie.spec int-to-float-result returns)
+pub returns : goal.returns
+unfolding metres_of
+returns c = metres-promise c.requires (quotient-read 10 ten c.requires tt)
