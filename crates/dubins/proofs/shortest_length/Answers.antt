@@ -1,0 +1,24 @@
+-- `shortest_length` tries RSR and LSL, then RSL and LSR, and keeps the least length, which is that of any order. Assumes nothing.
+use mathlib.Core.Path.{subst}
+use native.Mathlib.Omega.{arith}
+use borrow.Author.Rules.{rules}
+use Rattle.dubins.specs.declared.Found.{Found}
+use Rattle.dubins.specs.Choice.{shortest_of}
+use Rattle.dubins.specs.Ways.{Measures}
+use Rattle.dubins.proofs.ShortestLaws.{shortest-all, measures-found, measures-none}
+use Rattle.dubins.proofs.OrderLaws.{outer-first}
+use Rattle.dubins.proofs.shortest_length.Goals as goal
+use Rattle.dubins.proofs.shortest_length.Goals.{After-better_length-best}
+
+-- all four cases were tried
+tried : (c : After-better_length-best) → Measures (shortest_of c.args.ends) c.better_length-best.result
+tried c =
+    let ends = c.args.ends in
+    subst (λ (f : Found). Measures f c.better_length-best.result) (shortest-all ends)
+    (outer-first ends _ (c.better_length-best.ensures _ (c.better_length-rsl.ensures _ c.outer_length-outer.ensures)))
+
+pub returns-then-best-lt-NO_LENGTH : goal.returns-then-best-lt-NO_LENGTH
+returns-then-best-lt-NO_LENGTH c = let h = c.if-best-lt-NO_LENGTH.true in (measures-found _ _ (tried c.before) h, omega (arith, h))
+
+pub returns-else-best-lt-NO_LENGTH : goal.returns-else-best-lt-NO_LENGTH
+returns-else-best-lt-NO_LENGTH c = (measures-none _ _ (tried c.before) c.if-best-lt-NO_LENGTH.false, omega arith)
