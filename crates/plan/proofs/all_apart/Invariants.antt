@@ -1,0 +1,28 @@
+-- What the loops of `all_apart` keep, and what falls with each round. Assumes nothing.
+use mathlib.Core.Path.{◌≡◌, refl, sym, ◌∙◌, ap}
+use mathlib.Core.Logic.{inl, inr}
+use mathlib.Core.Bool.{Bool, true, false}
+use mathlib.Core.List.{List}
+use Prim.Native.Nat.{ℕ, ◌-◌, ◌≤◌}
+use lib.Dec.{eqb}
+use lib.IntN.{ℤ}
+use borrow.Author.Tests.{eq-eqb, ne_eqb}
+use Rattle.conditions.proofs.Bools.{both-on}
+use Rattle.refusals.specs.Sweep.{every}
+use Rattle.refusals.proofs.SweepLaws.{passing, passing-all}
+use Rattle.plan.specs.Places.{place_at}
+use Rattle.plan.specs.Rules.{pair_at, pairs_of}
+use Rattle.plan.proofs.PlaceLaws.{pair-there}
+use Rattle.plan.proofs.SweptLaws.{counted_next, every-good}
+use native.Mathlib.Omega.{arith}
+use Rattle.plan.proofs.all_apart.Given as goal
+
+abbrev pub apart : List ℤ → List ℤ → List ℤ → ℕ → Bool
+apart norths easts downs i = eqb (pair_at (place_at norths easts downs) i) 0
+
+abbrev pub invariant-loop-i : goal.invariant-loop-i
+invariant-loop-i l =
+    (1 ≤ l.i) × ((l.equal ≤ l.i) × (every (apart l.norths l.easts l.downs) (l.n - 1) 1 ≡ passing (apart l.norths l.easts l.downs) l.equal l.n l.i))
+
+abbrev pub decreases-loop-i : goal.decreases-loop-i
+decreases-loop-i l = l.n - l.i

@@ -1,0 +1,14 @@
+-- What the loops of `pairs` keep, and what falls with each round. Assumes nothing.
+use Rattle.plan.specs.Places.{place_at}
+use Rattle.plan.specs.Rules.{pair_at, pairs_of}
+use Rattle.plan.proofs.PlaceLaws.{pair-there}
+use Rattle.plan.proofs.SweptLaws.{Swept, swept-start, swept-next, swept-hit, swept-stop}
+use native.Mathlib.Omega.{arith}
+use Prim.Native.Nat.{◌-◌}
+use Rattle.plan.proofs.pairs.Given as goal
+
+abbrev pub invariant-loop-i : goal.invariant-loop-i
+invariant-loop-i l = Swept (pair_at (place_at l.norths l.easts l.downs)) l.n l.i
+
+abbrev pub decreases-loop-i : goal.decreases-loop-i
+decreases-loop-i l = l.n - l.i

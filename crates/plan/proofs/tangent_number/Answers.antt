@@ -1,0 +1,14 @@
+-- `tangent_number` gives refusal 12 of a leg between two fillets, from squares. Assumes nothing.
+use native.Mathlib.Nat.{mul-le-mul}
+use native.Mathlib.Omega.{arith}
+use Rattle.plan.proofs.TangentNumberLaws.{leg-passes, leg-short}
+use Rattle.plan.proofs.tangent_number.Goals as goal
+
+pub overflow_mul-tangents : goal.overflow_mul-tangents
+overflow_mul-tangents c = let h = c.requires in omega (arith, mul-le-mul h h)
+
+pub returns-then-tangents-squared : goal.returns-then-tangents-squared
+returns-then-tangents-squared c = let s = c.args in λ a b e. leg-passes a b s.squared s.tangents e c.if-tangents-squared.true
+
+pub returns-else-tangents-squared : goal.returns-else-tangents-squared
+returns-else-tangents-squared c = let s = c.args in λ a b e. leg-short a b s.squared s.tangents e c.if-tangents-squared.false
