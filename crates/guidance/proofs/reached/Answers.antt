@@ -1,0 +1,20 @@
+-- `reached` decides whether the position lies at a place or beyond it. Assumes nothing.
+use mathlib.Core.Path.{◌≡◌, sym, ap, ◌∙◌}
+use lib.IntN.{ℤ, pos}
+use lib.Signed.{le_z}
+use mir.Syntax.{w64}
+use borrow.Author.Rules.{rules}
+use Rattle.integers.proofs.BoundLaws.{kept}
+use Rattle.course.specs.declared.Vector.{Vector}
+use Rattle.course.specs.Direction.{direction_of}
+use Rattle.plane.specs.Level.{dot_of}
+use Rattle.guidance.specs.Guide.{reached_of}
+use Rattle.guidance.proofs.reached.Goals as goal
+
+pub returns : goal.returns
+unfolding reached_of
+returns c =
+    let s = c.args in
+    let a = c.along.ensures in
+    let e = kept w64 a.1 tt ∙ a.0 ∙ ap (λ (v : Vector). dot_of v (direction_of s.course)) c.from.ensures.0 in
+    ap (le_z (pos 0)) e
