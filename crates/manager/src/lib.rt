@@ -34,7 +34,7 @@ pub struct Progress {
 }
 
 // A plan and how far it is flown.
-#[derive(Drop)]
+#[derive(Clone, Copy)]
 pub struct State {
     pub plan: Plan,
     pub progress: Progress,

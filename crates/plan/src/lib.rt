@@ -60,7 +60,7 @@ pub struct Head {
 }
 
 // A plan. Places past the count are zero, and so are a radius and courses that its mode does not use.
-#[derive(Drop)]
+#[derive(Clone, Copy)]
 pub struct Plan {
     pub head: Head,
     pub norths: [i32; MOST_POINTS],

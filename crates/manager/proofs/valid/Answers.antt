@@ -1,0 +1,20 @@
+-- `valid` decides refusal 14. Assumes nothing.
+use mathlib.Core.Path.{sym, ◌∙◌}
+use borrow.Author.Rules.{rules}
+use Rattle.conditions.proofs.Bools.{both-on, both-off}
+use Rattle.plan.proofs.LimitLaws.{told}
+use Rattle.manager.specs.State.{valid_of}
+use Rattle.manager.proofs.StateLaws.{valid-means}
+use Rattle.manager.proofs.valid.Goals as goal
+
+pub returns-then-stands : goal.returns-then-stands
+unfolding valid_of
+returns-then-stands c =
+    let h = sym c.stands.ensures.0 ∙ c.if-stands.true in
+    told _ _ (valid-means _) (rw both-on c.placed.ensures)
+
+pub returns : goal.returns
+unfolding valid_of
+returns c =
+    let h = sym c.stands.ensures.0 ∙ c.if-stands.false in
+    told _ _ (valid-means _) (rw both-off)
