@@ -19,7 +19,7 @@ use units::Fix;
 pub const FIX_NUMBERS: usize = 3;
 
 // The state after the last fix, or a refusal with its place.
-#[derive(Drop)]
+#[derive(Clone, Copy)]
 pub struct Flown {
     pub refusal: u8,
     pub place: usize,

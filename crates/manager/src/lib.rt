@@ -60,7 +60,7 @@ pub struct Decided {
 }
 
 // The answer, and the state for the next fix.
-#[derive(Drop)]
+#[derive(Clone, Copy)]
 pub struct Stepped {
     pub answer: Answer,
     pub state: State,

@@ -121,7 +121,7 @@ struct Tally {
 }
 
 // What a file's records give beside the points and courses themselves, or a refusal with its place and nothing else.
-#[derive(Drop)]
+#[derive(Clone, Copy)]
 pub struct Gathered {
     pub refusal: u8,
     pub place: usize,

@@ -38,7 +38,7 @@ const DOWNS_START: usize = plan::DOWN_BLOCK * plan::MOST_POINTS;
 const COURSES_START: usize = plan::COURSE_BLOCK * plan::MOST_POINTS;
 
 // A state, or a refusal with its place and the empty state.
-#[derive(Drop)]
+#[derive(Clone, Copy)]
 pub struct Loaded {
     pub refusal: u8,
     pub place: usize,
@@ -46,7 +46,7 @@ pub struct Loaded {
 }
 
 // A load without the numbers, which are lent: the head and the progress of the state.
-#[derive(Drop)]
+#[derive(Clone, Copy)]
 pub struct Entered {
     pub refusal: u8,
     pub place: usize,
