@@ -367,19 +367,18 @@ loaded-filled r f (good s) e = load-filled r f s e
 loaded-filled r f (refused n p) e = empty-filled
 
 -- ---- a load into lent numbers
-module _ (r : ℕ) (f : List ℕ) (x : Entered) (numbers : List ℤ) where
-  -- what `read_into` promises
-  abbrev Reads : Type 0
-  Reads = (x ≡ entered_of (loaded_of (load_of r f))) × ((s : State) → load_of r f ≡ good s → numbers ≡ numbers_of s.plan)
+module _ (r : ℕ) (f : List ℕ) where
+  pub value-refused : {x : Entered} (n p : ℕ) → load_of r f ≡ refused n p → x ≡ entered_of (loaded_of (refused n p)) → x ≡ entered_of (loaded_of (load_of r f))
+  value-refused n p e k = k ∙ ap (λ (o : Outcome State). entered_of (loaded_of o)) (sym e)
 
-  pub read-refused : (n p : ℕ) → load_of r f ≡ refused n p → x ≡ entered_of (loaded_of (refused n p)) → Reads
-  read-refused n p e k = (k ∙ ap (λ (o : Outcome State). entered_of (loaded_of o)) (sym e), (λ s g. never-good (sym e ∙ g)))
+  pub numbers-refused : {numbers : List ℤ} (n p : ℕ) → load_of r f ≡ refused n p → (s : State) → load_of r f ≡ good s → numbers ≡ numbers_of s.plan
+  numbers-refused n p e s g = never-good (sym e ∙ g)
 
-  pub read-finished : (serial : ℕ) (a : Parts) → load_of r f ≡ finish_of serial a → x ≡ entered_of (loaded_of (finish_of serial a)) → numbers ≡ numbers_in a → Reads
-  read-finished serial a e k n = (
-    k ∙ ap (λ (o : Outcome State). entered_of (loaded_of o)) (sym e),
-    (λ s g. n ∙ ap (λ (t : State). numbers_of t.plan) (sym (finish-makes serial a s (sym e ∙ g)))),
-  )
+  pub value-finished : {x : Entered} (serial : ℕ) (a : Parts) → load_of r f ≡ finish_of serial a → x ≡ entered_of (loaded_of (finish_of serial a)) → x ≡ entered_of (loaded_of (load_of r f))
+  value-finished serial a e k = k ∙ ap (λ (o : Outcome State). entered_of (loaded_of o)) (sym e)
+
+  pub numbers-finished : {numbers : List ℤ} (serial : ℕ) (a : Parts) → load_of r f ≡ finish_of serial a → numbers ≡ numbers_in a → (s : State) → load_of r f ≡ good s → numbers ≡ numbers_of s.plan
+  numbers-finished serial a e n s g = n ∙ ap (λ (t : State). numbers_of t.plan) (sym (finish-makes serial a s (sym e ∙ g)))
 
 module _ (r : ℕ) (f : List ℕ) (x : Entered) (reads : x ≡ entered_of (loaded_of (load_of r f))) where
   refusal-read : x.refusal ≡ (loaded_of (load_of r f)).refusal

@@ -1,0 +1,9 @@
+-- `block_of` copies a block. Assumes nothing.
+use mathlib.Core.Path.{refl}
+use Rattle.wpl.proofs.LoadLaws.{block-copied}
+use borrow.Author.Rules.{rules}
+use Rattle.wpl.proofs.block_of.Goals as goal
+
+pub returns : goal.returns
+returns c =
+    block-copied c.args.from c.args.numbers.now _ _ c.requires refl c.put_numbers.ensures

@@ -1,0 +1,15 @@
+-- `load` puts the state together from the blocks that were filled. Assumes nothing.
+use mathlib.Core.Path.{refl}
+use Rattle.wpl.proofs.LoadLaws.{loaded-filled, loaded-whole}
+use Rattle.wpl.proofs.OrderLaws.{in_order}
+use borrow.Author.Rules.{rules}
+use Rattle.wpl.proofs.load.Goals as goal
+
+pub returns : goal.returns
+returns c =
+    record {
+      value = loaded-whole _ (loaded-filled _ _ _ refl) c.load_into-entered.ensures.value c.load_into-entered.ensures.numbers_after c.block_of-norths.ensures c.block_of-easts.ensures
+          c.block_of-downs.ensures c.block_of-courses.ensures;
+      starts = c.load_into-entered.ensures.starts;
+      all = in_order.0;
+    }
