@@ -7,18 +7,11 @@ use Rattle.strips.specs.Check.{check_of, Tied, OneAnswer}
 use Rattle.strips.specs.Holds.{StripsHold}
 use Rattle.strips.proofs.Anchors.{strips-hold}
 use Rattle.strips.proofs.TiedLaws.{tied, one_answer}
-use Rattle.strips.proofs.check.Statement.{statement}
-use Rattle.strips.proofs.check.Tie as tie
+use Rattle.strips.proofs.check.Goals as goal
 
 -- an equation, and with it what the check owes
 promise : (s : State) {r : Checked} → r ≡ check_of s → (r ≡ check_of s) × (Tied s r × (OneAnswer × StripsHold))
 promise s e = (e, (subst (Tied s) (sym e) (tied s), (one_answer, strips-hold)))
 
-check-from-requires : tie.Need-check-from-requires
-check-from-requires c κs = search rules
-
-returns : tie.Need-returns
-returns c = promise _ c.check-from.ensures
-
-pub check-spec : {M : Type 1} → statement M
-check-spec = tie.close (tie.spec check-from-requires returns)
+pub returns : goal.returns
+returns c = promise _ c.check_from.ensures
