@@ -1,0 +1,12 @@
+-- `put_text` lends the part from the place on, and its front takes the bytes. Assumes nothing.
+use native.Mathlib.Omega.{arith}
+use Rattle.text.proofs.WrittenLaws.{copied}
+use Rattle.buffers.proofs.SpliceLaws.{lent}
+use borrow.Author.Rules.{rules}
+use Rattle.buffers.proofs.put_bytes.Reads as put-bytes-reads
+use Rattle.text.proofs.put_text.Goals as goal
+
+pub returns : goal.returns
+returns c =
+    let a = c.args in
+    copied a.at a.text.now a.buffer.now _ (omega arith) (lent a.at a.text.now a.buffer.now c.put_bytes.new.part c.put_bytes.ensures.part_after)
