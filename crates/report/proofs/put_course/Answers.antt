@@ -1,0 +1,20 @@
+-- `put_course` writes a course, or a dash. Assumes nothing.
+use native.Mathlib.Omega.{arith}
+use Rattle.report.specs.Listing.{course_text}
+use borrow.Author.Rules.{rules}
+use Rattle.report.proofs.put_course.Goals as goal
+
+pub returns-in-Lines : goal.returns-in-Lines
+unfolding course_text
+returns-in-Lines c =
+    rw c.in-Lines.is (c.put_text.ensures, omega (arith, c.put_text.ensures.ends))
+
+pub returns-in-Fillets : goal.returns-in-Fillets
+unfolding course_text
+returns-in-Fillets c =
+    rw c.in-Fillets.is (c.put_text-in-Fillets.ensures, omega (arith, c.put_text-in-Fillets.ensures.ends))
+
+pub returns-in-Dubins : goal.returns-in-Dubins
+unfolding course_text
+returns-in-Dubins c =
+    rw c.in-Dubins.is c.put_count.ensures.wrote

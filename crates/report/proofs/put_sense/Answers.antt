@@ -1,0 +1,13 @@
+-- `put_sense` writes which way round. Assumes nothing.
+use native.Mathlib.Omega.{arith}
+use Rattle.report.proofs.FixLaws.{sense-right, sense-left}
+use borrow.Author.Rules.{rules}
+use Rattle.report.proofs.put_sense.Goals as goal
+
+pub returns-then-sense-eq1 : goal.returns-then-sense-eq1
+returns-then-sense-eq1 c =
+    rw (sense-right c.args.sense c.if-sense-eq1.true) (c.put_text.ensures, omega (arith, c.put_text.ensures.ends))
+
+pub returns : goal.returns
+returns c =
+    rw (sense-left c.args.sense c.if-sense-eq1.false) (c.put_text-2.ensures, omega (arith, c.put_text-2.ensures.ends))
