@@ -69,11 +69,6 @@ module _ (told : Bool) (p : Plan) (table : List ℕ) where
       let k : i - 1 + 1 ≡ i = omega arith in
       record { kept = ap length n ∙ w.kept; are = n ∙ w.are ∙ written-not i t ∙ ap (λ (j : ℕ). told_from told p j table) (sym k) }
 
--- either of two, put otherwise
-pub either : {A B C D : Type 0} → (A → C) → (B → D) → A ⊎ B → C ⊎ D
-either f g (inl a) = inl (f a)
-either f g (inr b) = inr (g b)
-
 -- all entries of a plan
 pub told-all : (p : Plan) (table : List ℕ) → told_from true p 1 table ≡ splice 2 (entries_of p) table
 unfolding told_from entries_of choose

@@ -1,0 +1,27 @@
+-- `corner_before` gives the corner at the start of a leg, with its arc, its tangent length and the leg to it. Assumes nothing.
+use mathlib.Core.Path.{sym, subst}
+use Prim.Native.Nat.{ℕ, ◌≤◌}
+use native.Mathlib.Omega.{arith}
+use borrow.Author.Rules.{rules}
+use Rattle.plan.specs.Limits.{most_turn}
+use Rattle.plan.specs.Places.{place_at}
+use Rattle.distance.proofs.PassLaws.{first-rounded, corner-turn, corner-rounded}
+use Rattle.distance.proofs.corner_before.Goals as goal
+
+pub returns-then-i-lt2 : goal.returns-then-i-lt2
+returns-then-i-lt2 c n h = first-rounded _ n _ _ _ (omega (arith, c.requires.le_i.0, c.if-i-lt2.true))
+
+pub level_leg_at-before-requires : goal.level_leg_at-before-requires
+level_leg_at-before-requires c = let h = c.requires.corner_there c.if-i-lt2.false in (h.before, h.corner)
+
+pub tangent_length-tangent-requires : goal.tangent_length-tangent-requires
+tangent_length-tangent-requires c =
+    let at = place_at c.args.norths.now c.args.easts.now c.args.downs.now in
+    let g = corner-turn at c.args.i c.level_leg_at-before.result c.args.leg c.lesser_turn-turn.result c.if-i-lt2.false c.level_leg_at-before.ensures c.requires.le_i.1.1 c.lesser_turn-turn.ensures.0 in
+    (c.requires.le_i.1.0, subst (λ (n : ℕ). n ≤ most_turn) (sym g) (c.requires.corner_there c.if-i-lt2.false).turn)
+
+pub returns : goal.returns
+returns c n h =
+    let at = place_at c.args.norths.now c.args.easts.now c.args.downs.now in
+    corner-rounded c.args.radius n at c.args.i c.level_leg_at-before.result c.args.leg c.lesser_turn-turn.result c.if-i-lt2.false h c.level_leg_at-before.ensures c.requires.le_i.1.1 c.lesser_turn-turn.ensures.0
+    _ _ c.arc-arc.ensures.0 c.arc-arc.ensures.1 c.tangent_length-tangent.ensures.value

@@ -1,0 +1,8 @@
+-- `distance` lends the numbers of a state to `distance_from`. Assumes nothing.
+use borrow.Author.Rules.{rules}
+use Rattle.distance.proofs.SummaryLaws.{at-index}
+use Rattle.distance.proofs.KeptLaws.{table_kept, told-at-the-load}
+use Rattle.distance.proofs.distance.Goals as goal
+
+pub returns : goal.returns
+returns c = (c.distance_from.ensures, (at-index, told-at-the-load table_kept at-index))

@@ -1,0 +1,42 @@
+-- `distance_from` asks 14, and then adds up from the state's index on, telling no entry. Assumes nothing.
+use mathlib.Core.Path.{◌≡◌, refl, sym, ap, ◌∙◌}
+use mathlib.Core.Bool.{true, false}
+use Prim.Native.Nat.{ℕ}
+use native.Mathlib.Omega.{arith}
+use borrow.Author.Rules.{rules}
+use borrow.Author.Tests.{not-true, not-false}
+use Rattle.conditions.proofs.Bools.{clash}
+use Rattle.manager.specs.declared.State.{State}
+use Rattle.manager.specs.State.{viewed}
+use Rattle.manager.proofs.StateLaws.{last-is}
+use Rattle.distance.specs.Lengths.{entry_of}
+use Rattle.distance.specs.Table.{distance_of, distance_by}
+use Rattle.distance.proofs.PassLaws.{sound-of}
+use Rattle.distance.proofs.SummaryLaws.{distance-refused, distance-answered}
+use Rattle.distance.proofs.distance_from.Goals as goal
+use Rattle.distance.proofs.distance_from.Goals.{Start}
+
+abbrev state : Start → State
+state s = viewed s.args.head s.args.progress s.args.norths.now s.args.easts.now s.args.downs.now s.args.courses.now
+
+pub returns-then-not-valid : goal.returns-then-not-valid
+unfolding distance_by
+returns-then-not-valid c =
+    ap distance_by (sym (distance-refused (state (goal.at.returns-then-not-valid c).Start) (sym c.valid.ensures.0 ∙ c.if-not-valid.true)))
+
+pub overflow_sub-progress : goal.overflow_sub-progress
+overflow_sub-progress c =
+    let w = c.valid.ensures.1 (c.if-not-valid.false) in
+    omega (arith, w.least)
+
+pub measure-left-requires : goal.measure-left-requires
+measure-left-requires c =
+    let t = c.if-not-valid.false in
+    let w = c.valid.ensures.1 t in
+    record { long = (c.requires, sound-of (state (goal.at.measure-left-requires c).Start) (sym c.valid.ensures.0 ∙ t)); le_place = ((omega (arith, w.least), omega (arith, w.least, w.most, last-is c.args.head.count)), λ u. clash false u refl) }
+
+pub returns : goal.returns
+unfolding distance_by entry_of
+returns c =
+    let e = distance-answered (state (goal.at.returns c).Start) (sym c.valid.ensures.0 ∙ c.if-not-valid.false) in
+    ap (λ (n : ℕ). record { refusal = 0; place = 0; left = n }) c.measure-left.ensures.value ∙ ap distance_by (sym e)

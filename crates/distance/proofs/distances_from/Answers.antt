@@ -1,0 +1,44 @@
+-- `distances_from` asks 14, then 16, and then writes the entries. Assumes nothing.
+use mathlib.Core.Path.{◌≡◌, sym, ap, ◌∙◌}
+use mathlib.Core.Bool.{true, false}
+use mathlib.Core.List.{List}
+use Prim.Native.Nat.{ℕ}
+use lib.ListN.{length}
+use native.Mathlib.Omega.{arith}
+use borrow.Author.Rules.{rules}
+use borrow.Author.Tests.{not-true, not-false}
+use Rattle.refusals.specs.Outcome.{Outcome, refusal_of}
+use Rattle.manager.specs.declared.State.{State}
+use Rattle.manager.specs.State.{viewed}
+use Rattle.distance.specs.Table.{distances_of, table_of}
+use Rattle.distance.proofs.PassLaws.{sound-of}
+use Rattle.distance.proofs.TableLaws.{told-all}
+use Rattle.distance.proofs.SummaryLaws.{refused-state, refused-room, answered}
+use Rattle.distance.proofs.distances_from.Goals as goal
+use Rattle.distance.proofs.distances_from.Goals.{Start}
+
+abbrev state : Start → State
+state s = viewed s.args.head s.args.progress s.args.norths.now s.args.easts.now s.args.downs.now s.args.courses.now
+
+pub returns-then-not-valid : goal.returns-then-not-valid
+unfolding refusal_of table_of
+returns-then-not-valid c =
+    let e = refused-state (state (goal.at.returns-then-not-valid c).Start) c.args.table.now (length c.args.table.now) (sym c.valid.ensures.0 ∙ c.if-not-valid.true) in
+    record { value = ap refusal_of (sym e); table_after = ap (λ (o : Outcome (List ℕ)). table_of o c.args.table.now) (sym e) }
+
+pub returns-then-table-head : goal.returns-then-table-head
+unfolding refusal_of table_of
+returns-then-table-head c =
+    let e = refused-room (state (goal.at.returns-then-table-head c).Start) c.args.table.now (length c.args.table.now) (sym c.valid.ensures.0 ∙ c.if-not-valid.false) (omega (arith, c.if-table-head.true)) in
+    record { value = ap refusal_of (sym e); table_after = ap (λ (o : Outcome (List ℕ)). table_of o c.args.table.now) (sym e) }
+
+pub measure-requires : goal.measure-requires
+measure-requires c =
+    let h = sound-of (state (goal.at.measure-requires c).Start) (sym c.valid.ensures.0 ∙ c.if-not-valid.false) in
+    record { long = (c.requires, h); le_place = ((omega arith, omega (arith, h.stands.least)), λ _. omega (arith, c.if-table-head.false)) }
+
+pub returns : goal.returns
+unfolding refusal_of table_of
+returns c =
+    let e = answered (state (goal.at.returns c).Start) c.args.table.now (length c.args.table.now) (sym c.valid.ensures.0 ∙ c.if-not-valid.false) (omega (arith, c.if-table-head.false)) in
+    record { value = ap refusal_of (sym e); table_after = c.measure.ensures.table_after ∙ told-all _ _ ∙ ap (λ (o : Outcome (List ℕ)). table_of o c.args.table.now) (sym e) }

@@ -1,0 +1,10 @@
+-- `put_fault` writes a refused check's number, place and rule. Assumes nothing.
+use Rattle.text.proofs.WrittenLaws.{then}
+use Rattle.strip_report.specs.StripListing.{fault_text}
+use borrow.Author.Rules.{rules}
+use Rattle.strip_report.proofs.put_fault.Goals as goal
+
+pub returns : goal.returns
+unfolding fault_text
+returns c =
+    then c.put_refusal-a.ensures.wrote.0 (then c.put_count-b.ensures.wrote.0 c.put_byte.ensures)
