@@ -1,0 +1,23 @@
+-- `told_at` lends the blocks of words that hold a state. Assumes nothing.
+use mathlib.Core.Path.{sym, ap, ◌∙◌}
+use borrow.Author.Rules.{rules}
+use Rattle.manager.specs.declared.State.{State}
+use Rattle.strips.specs.Check.{check_of, strip_row}
+use Rattle.c_state.proofs.TakenLaws.{state-there}
+use Rattle.desk.proofs.StripsLaws.{check-held, check-unheld, row-held, row-unheld}
+use Rattle.desk.proofs.told_at.Goals as goal
+
+pub head_at-requires : goal.head_at-requires
+head_at-requires c = (c.requires, sym c.holds_state.ensures.value ∙ c.if-holds_state.true)
+
+pub progress_at-requires : goal.progress_at-requires
+progress_at-requires c = (c.requires, sym c.holds_state.ensures.value ∙ c.if-holds_state.true)
+
+pub returns-then-holds_state : goal.returns-then-holds_state
+returns-then-holds_state c =
+    let a = c.args in
+    let v = state-there a.words.now c.head_at.ensures.0 c.progress_at.ensures.0 in
+    let h = sym c.holds_state.ensures.value ∙ c.if-holds_state.true in record { checked_value = c.told_from.ensures.checked_value ∙ ap (λ (s : State). check_of s) v ∙ sym (check-held _ h); strip_value = c.told_from.ensures.strip_value ∙ ap (λ (s : State). strip_row s a.number) v ∙ sym (row-held _ _ h) }
+
+pub returns : goal.returns
+returns c = let h = sym c.holds_state.ensures.value ∙ c.if-holds_state.false in record { checked_value = sym (check-unheld _ h); strip_value = sym (row-unheld _ _ h) }
