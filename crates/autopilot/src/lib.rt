@@ -37,21 +37,14 @@ pub const DISTANCES_ANSWER: usize = 2;
 pub const DISTANCE_ANSWER: usize = 3;
 
 // The number of this interface, by which a caller knows that the archive and the header belong together.
-#[unsafe(no_mangle)]
-pub extern "C" fn farnkuppel_interface() -> u32
+pub fn farnkuppel_interface() -> u32
     ensures { result ≡ interface }
 {
     c_answer::INTERFACE
 }
 
 // Loads a plan file by a reader of a version, into the state's words as they lie. Refused, they are those of the empty state.
-#[unsafe(no_mangle)]
-pub extern "C" fn farnkuppel_load(
-    file: &[u8],
-    reader: u32,
-    state: &mut [i32],
-    answer: &mut [u32],
-) -> u32
+pub fn farnkuppel_load(file: &[u8], reader: u32, state: &mut [i32], answer: &mut [u32]) -> u32
     ensures value { result ≡ load_result (load_fits state.old answer.old) (loaded_of (load_of reader file.now)) }
     ensures state_after { state.new ≡ load_state (load_fits state.old answer.old) (loaded_of (load_of reader file.now)) state.old }
     ensures answer_after { answer.new ≡ load_answer (load_fits state.old answer.old) (loaded_of (load_of reader file.now)) answer.old }
@@ -113,8 +106,7 @@ fn refuse(words: &[i32], answer: &mut [u32], command: &mut [f32])
 }
 
 // One fix for the plan with a serial. On a refusal the state's words are what they were.
-#[unsafe(no_mangle)]
-pub extern "C" fn farnkuppel_fix(
+pub fn farnkuppel_fix(
     state: &mut [i32],
     serial: u32,
     north: f32,
@@ -169,13 +161,7 @@ fn write_at(words: &[i32], version: u32, file: &mut [u8]) -> Written
 }
 
 // Writes the plan of a state as a file of a version. Refused, nothing of the file is written.
-#[unsafe(no_mangle)]
-pub extern "C" fn farnkuppel_write(
-    state: &[i32],
-    version: u32,
-    file: &mut [u8],
-    answer: &mut [u32],
-) -> u32
+pub fn farnkuppel_write(state: &[i32], version: u32, file: &mut [u8], answer: &mut [u32]) -> u32
     ensures value { result ≡ write_result (write_fits state.now answer.old) (write_from state.now version (length file.old)) }
     ensures file_after { file.new ≡ write_file (write_fits state.now answer.old) (write_from state.now version (length file.old)) file.old }
     ensures answer_after { answer.new ≡ write_answer (write_fits state.now answer.old) (write_from state.now version (length file.old)) answer.old }
@@ -223,8 +209,7 @@ fn distances_at(words: &[i32], table: &mut [u32]) -> Refusal
 }
 
 // The distance to go from each index of a state's plan on. Refused, nothing of the table is written.
-#[unsafe(no_mangle)]
-pub extern "C" fn farnkuppel_distances(state: &[i32], table: &mut [u32], answer: &mut [u32]) -> u32
+pub fn farnkuppel_distances(state: &[i32], table: &mut [u32], answer: &mut [u32]) -> u32
     ensures value { result ≡ distances_result (distances_fit state.now answer.old) (distances_in (taken_of state.now) (length table.old)) }
     ensures table_after { table.new ≡ distances_table (distances_fit state.now answer.old) (distances_in (taken_of state.now) (length table.old)) table.old }
     ensures answer_after { answer.new ≡ distances_answer (distances_fit state.now answer.old) (distances_in (taken_of state.now) (length table.old)) answer.old }
@@ -263,8 +248,7 @@ fn distance_at(words: &[i32]) -> Measured
 }
 
 // The distance to go from a state's index on.
-#[unsafe(no_mangle)]
-pub extern "C" fn farnkuppel_distance(state: &[i32], answer: &mut [u32]) -> u32
+pub fn farnkuppel_distance(state: &[i32], answer: &mut [u32]) -> u32
     ensures value { result ≡ distance_result (distance_fits state.now answer.old) (distance_in (taken_of state.now)) }
     ensures answer_after { answer.new ≡ distance_answer (distance_fits state.now answer.old) (distance_in (taken_of state.now)) answer.old }
 {
