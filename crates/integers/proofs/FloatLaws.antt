@@ -1,7 +1,7 @@
 -- Which floats have bits, and which bits are a float's: a number that passed a comparison is no NaN, and neither is a pattern below that of infinity.
 -- Assumes nothing.
-use mathlib.Core.Path.{◌≡◌, refl, sym, ◌∙◌, subst}
-use mathlib.Core.Bool.{Bool, true, false, not, true≢false}
+use mathlib.Core.Path.{◌≡◌, sym, ◌∙◌, subst}
+use mathlib.Core.Bool.{Bool, true, not, true≢false}
 use Prim.Native.Nat.{ℕ, ◌*◌, ◌%◌, ◌≤◌}
 use native.Mathlib.Nat.{le_trans, mod-le}
 use lib.Dec.{T}

@@ -1,7 +1,7 @@
 -- The value of a signed expression of the code: what the machine reads, through its bits, is the number that the expression says.
 --   Reads k m z   m, which the machine reads, is z, and |z| ≤ 2 ^ k
 -- The sets at the end are for `search`. Assumes nothing.
-use mathlib.Core.Path.{◌≡◌, refl, sym, ap, ◌∙◌}
+use mathlib.Core.Path.{◌≡◌, refl, ap, ◌∙◌}
 use Prim.Native.Nat.{ℕ, zero, ◌-◌, ◌*◌, ◌/◌, ◌^◌, ◌≤◌, min}
 use lib.Dec.{T, ltb, leb}
 use lib.IntN.{ℤ, pos, neg_ℤ, nat_abs, ◌+ℤ◌, ◌*ℤ◌, +ℤ_idl}

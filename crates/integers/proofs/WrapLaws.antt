@@ -11,7 +11,7 @@ use mir.Val.{SFits}
 use Rattle.integers.specs.Bounds.{Within}
 use Rattle.integers.specs.Wrap.{wrap_of}
 use Rattle.integers.proofs.Magnitudes.{abs-quot, abs-rem, mag-le}
-use Rattle.integers.proofs.Ring.{v, lit, neg, add, sub, same, le, diff-le}
+use Rattle.integers.proofs.Ring.{lit, neg, add, sub, same, le, diff-le}
 
 pub wrap-lt : (z : ℤ) → wrap_of z < 4096
 unfolding wrap_of

@@ -1,7 +1,6 @@
 -- Refusal 10 by comparison: the squared level leg of two points is 0 exactly where they are equal in north and east. Assumes nothing.
-use mathlib.Core.Path.{◌≡◌, ap, ◌∙◌}
+use mathlib.Core.Path.{◌≡◌, ap}
 use native.Mathlib.Omega.{arith}
-use lib.Dec.{eqb}
 use lib.IntN.{ℤ, pos, ◌-ℤ◌}
 use borrow.Author.Tests.{eq-eqb, ne_eqb}
 use Rattle.conditions.proofs.ChooseLaws.{choose-true, choose-false}

@@ -10,7 +10,7 @@ use Rattle.fillets.specs.Corners.{corner_turn}
 use Rattle.dubins.specs.declared.Ends.{Ends}
 use Rattle.dubins.specs.Choice.{has_path_of, far_apart}
 use Rattle.plan.specs.declared.Mode.{Mode}
-use Rattle.plan.specs.declared.Mode.TheVariants.{Lines, Fillets, Dubins}
+use Rattle.plan.specs.declared.Mode.TheVariants.{Lines, Fillets}
 use Rattle.plan.specs.declared.Plan.{Plan}
 use Rattle.plan.specs.Limits.{fewest_points, most_points, most_level, most_down, least_radius, most_radius, full_circle, most_turn, in_area_of, arc_radius}
 use Rattle.plan.specs.Places.{points_at, courses_at, seen}

@@ -1,7 +1,7 @@
 -- Bounds of legs in three dimensions and of their products. Assumes nothing.
 use mathlib.Core.Path.{◌≡◌, sym, subst}
-use Prim.Native.Nat.{ℕ, ◌+◌, ◌*◌, ◌≤◌}
-use lib.IntN.{ℤ, nat_abs, ◌+ℤ◌, ◌*ℤ◌}
+use Prim.Native.Nat.{◌≤◌}
+use lib.IntN.{ℤ, ◌+ℤ◌, ◌*ℤ◌}
 use Rattle.integers.specs.Bounds.{Within}
 use Rattle.integers.proofs.BoundLaws.{within-plus, within-less, within-mul}
 use Rattle.plane.specs.declared.Point.{Point}

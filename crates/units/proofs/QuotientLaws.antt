@@ -9,7 +9,7 @@ use lib.IntN.{ℤ, pos, negsuc, nat_abs}
 use lib.Signed.{non_neg}
 use lib.Dec.{T, leb, lit<, lit≤}
 use lib.Pow.{pow_pos}
-use lib.Ieee.{Float, fin, binary32, unlike, up, down, div, fits, is_nan, of_int, of_bits, to_bits, round, inf, nan}
+use lib.Ieee.{Float, fin, binary32, unlike, up, down, div, fits, is_nan, of_int, of_bits, round, inf, nan}
 use lib.Ieee.Bits.{of_bits-to_bits}
 use lib.Ieee.Fits.{up_pos, down_pos, round_is, round-fits}
 use lib.Ieee.Exact.{HasValue, units_val, round_exact}

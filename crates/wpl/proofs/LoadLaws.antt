@@ -11,7 +11,6 @@ use lib.IntN.{ℤ, pos}
 use lib.ListN.{length, take, drop, length-drop, drop_of_length-le, get_or-eq_default}
 use lib.Seq.{length-take-le}
 use borrow.Author.Tests.{le-leb, lt-leb, lt-ltb, le-ltb, eq-eqb, ne_eqb, ltb-true, ltb-false, eqb-true}
-use Rattle.conditions.specs.Both.{both}
 use Rattle.conditions.proofs.ChooseLaws.{choose-false}
 use Rattle.conditions.proofs.Bools.{by_bool, clash, both-on, both-second, both-off, both-off-second}
 use Rattle.conditions.proofs.BetweenLaws.{between-test, between-under, between-over}

@@ -1,12 +1,8 @@
 -- `clear` stores zeros. The loop's invariant: the first numbers are zero, and the others are what they were. Assumes nothing.
 use mathlib.Core.Path.{refl}
-use Prim.Native.Nat.{◌-◌}
-use native.Mathlib.Omega.{arith}
 use lib.IntN.{pos}
-use lib.ListN.{length}
-use borrow.Author.Rules.{rules}
 use Rattle.buffers.specs.Splice.{zeroed}
-use Rattle.buffers.proofs.FillLaws.{Filled, fill-starts, fill_more, fill-ends}
+use Rattle.buffers.proofs.FillLaws.{fill-starts, fill_more, fill-ends}
 use Rattle.buffers.proofs.clear.Goals as goal
 
 pub loop-i-init : goal.loop-i-init

@@ -1,12 +1,11 @@
 -- `put_bytes` copies bytes to the front of a part. The loop's invariant: as many as were reached are copied, and the rest is what it was.
 -- Assumes nothing.
 use mathlib.Core.Path.{ap}
-use Prim.Native.Nat.{ℕ, ◌-◌}
+use Prim.Native.Nat.{ℕ}
 use native.Mathlib.Omega.{arith}
-use lib.ListN.{length, get_or}
-use borrow.Author.Rules.{rules}
+use lib.ListN.{get_or}
 use Rattle.buffers.proofs.Anchors.{buffer_facts}
-use Rattle.buffers.proofs.CopyLaws.{Copying, starts, goes_on, ends}
+use Rattle.buffers.proofs.CopyLaws.{starts, goes_on, ends}
 use Rattle.buffers.proofs.put_bytes.Goals as goal
 
 pub loop-i-init : goal.loop-i-init

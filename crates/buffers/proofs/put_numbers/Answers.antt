@@ -1,13 +1,12 @@
 -- `put_numbers` copies signed numbers to the front of a part. The loop's invariant: as many as were reached are copied, and the rest is what it was.
 -- Assumes nothing.
 use mathlib.Core.Path.{◌≡◌}
-use Prim.Native.Nat.{◌-◌}
-use lib.ListN.{length, get_or}
+use lib.ListN.{get_or}
 use lib.IntN.{pos}
 use mir.Syntax.{w32}
 use mir.Val.{to_z, of_z}
 use borrow.Author.Rules.{rules}
-use Rattle.buffers.proofs.CopyLaws.{Copying, starts, goes_on, ends}
+use Rattle.buffers.proofs.CopyLaws.{starts, goes_on, ends}
 use Rattle.buffers.proofs.put_numbers.Goals as goal
 
 pub loop-i-init : goal.loop-i-init

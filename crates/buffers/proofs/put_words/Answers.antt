@@ -1,11 +1,8 @@
 -- `put_words` copies words to the front of a part. The loop's invariant: as many as were reached are copied, and the rest is what it was.
 -- Assumes nothing.
 use mathlib.Core.Path.{refl}
-use Prim.Native.Nat.{◌-◌}
 use native.Mathlib.Omega.{arith}
-use lib.ListN.{length}
-use borrow.Author.Rules.{rules}
-use Rattle.buffers.proofs.CopyLaws.{Copying, starts, goes_on, ends}
+use Rattle.buffers.proofs.CopyLaws.{starts, goes_on, ends}
 use Rattle.buffers.proofs.put_words.Goals as goal
 
 pub loop-i-init : goal.loop-i-init

@@ -1,6 +1,5 @@
 -- `better` gives the shorter of what was found before and a case, whether or not the case is worked out. Assumes nothing.
 use mathlib.Core.Path.{◌≡◌, sym, ap, ◌∙◌}
-use borrow.Author.Rules.{rules}
 use Rattle.dubins.specs.declared.Circles.{Circles}
 use Rattle.dubins.specs.Cases.{circles_of, tangent_exists, case_exists}
 use Rattle.dubins.specs.Choice.{shorter_of}

@@ -1,6 +1,5 @@
 -- `case_exists` decides whether a case of a leg exists. Assumes nothing.
 use mathlib.Core.Path.{◌∙◌}
-use borrow.Author.Rules.{rules}
 use Rattle.dubins.proofs.case_exists.Goals as goal
 
 pub returns : goal.returns

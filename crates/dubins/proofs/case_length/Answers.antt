@@ -1,6 +1,5 @@
 -- `case_length` adds up the straight part and both arcs. Assumes nothing.
 use native.Mathlib.Omega.{arith}
-use borrow.Author.Rules.{rules}
 use Rattle.dubins.specs.Cases.{case_length}
 use Rattle.dubins.proofs.case_length.Goals as goal
 

@@ -1,6 +1,5 @@
 -- `centre` gives the centre of the circle on either side. Assumes nothing.
 use mathlib.Core.Path.{◌∙◌}
-use borrow.Author.Rules.{rules}
 use Rattle.dubins.specs.Cases.{centre_of}
 use Rattle.dubins.proofs.PathBounds.{offset_near}
 use Rattle.dubins.proofs.centre.Goals as goal

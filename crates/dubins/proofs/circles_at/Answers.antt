@@ -1,6 +1,5 @@
 -- `circles_at` gives the circles with two centres, and v between them. Assumes nothing.
 use mathlib.Core.Path.{sym, subst}
-use borrow.Author.Rules.{rules}
 use Rattle.course.specs.Vectors.{Near}
 use Rattle.plane.proofs.LevelLaws.{minus-near}
 use Rattle.dubins.proofs.circles_at.Goals as goal

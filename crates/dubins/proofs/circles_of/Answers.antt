@@ -1,6 +1,5 @@
 -- `circles_of` gives the circles of a case. Assumes nothing.
 use mathlib.Core.Path.{◌∙◌}
-use borrow.Author.Rules.{rules}
 use Rattle.dubins.specs.Cases.{circles_of}
 use Rattle.dubins.proofs.circles_of.Goals as goal
 

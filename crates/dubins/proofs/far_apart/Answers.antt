@@ -3,7 +3,6 @@ use mathlib.Core.Path.{ap, ◌∙◌}
 use native.Mathlib.Nat.{mul-le-mul}
 use native.Mathlib.Omega.{arith}
 use lib.Dec.{leb}
-use borrow.Author.Rules.{rules}
 use Rattle.plane.specs.Level.{minus, square_of}
 use Rattle.dubins.specs.Choice.{far_apart}
 use Rattle.dubins.proofs.far_apart.Goals as goal

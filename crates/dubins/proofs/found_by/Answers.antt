@@ -1,6 +1,5 @@
 -- `found_by` gives the path of a case that was tried. Assumes nothing.
 use mathlib.Core.Path.{subst}
-use borrow.Author.Rules.{rules}
 use Rattle.dubins.specs.Ways.{IsTried, found_by}
 use Rattle.dubins.proofs.found_by.Goals as goal
 

@@ -1,7 +1,6 @@
 -- `has_path` decides whether any case exists, and each does exactly when 12.3 and 12.4 say. Assumes nothing.
 use mathlib.Core.Path.{◌≡◌, sym, ◌∙◌}
 use mathlib.Core.Bool.{false}
-use borrow.Author.Rules.{rules}
 use Rattle.dubins.specs.declared.Ends.{Ends}
 use Rattle.dubins.specs.Cases.{case_exists}
 use Rattle.dubins.specs.Choice.{has_path_of}

@@ -1,6 +1,5 @@
 -- `inner_tangent` gives what the course of RSL or LSR is the bearing of. Assumes nothing.
 use Prim.Native.Nat.{◌*◌, ◌≤◌}
-use borrow.Author.Rules.{rules}
 use Rattle.conditions.specs.Choose.{choose}
 use Rattle.integers.specs.Bounds.{Within}
 use Rattle.integers.proofs.BoundLaws.{overflow}

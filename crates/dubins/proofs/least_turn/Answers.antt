@@ -2,7 +2,6 @@
 use mathlib.Core.Path.{sym, ◌∙◌}
 use mathlib.Core.Bool.{true, false}
 use native.Mathlib.Omega.{arith}
-use borrow.Author.Rules.{rules}
 use Rattle.dubins.proofs.LeastLaws.{like-sides, any-sides, like-ends}
 use Rattle.dubins.proofs.least_turn.Goals as goal
 

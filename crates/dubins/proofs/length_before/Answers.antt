@@ -2,7 +2,6 @@
 use mathlib.Core.Path.{refl, subst}
 use Prim.Native.Nat.{◌<◌}
 use native.Mathlib.Omega.{arith}
-use borrow.Author.Rules.{rules}
 use Rattle.dubins.specs.Ways.{IsTried, path_along, found_by}
 use Rattle.dubins.proofs.length_before.Goals as goal
 

@@ -2,7 +2,6 @@
 use mathlib.Core.Path.{◌≡◌, sym, ap, ◌∙◌}
 use Prim.Native.Nat.{ℕ, ◌+◌, ◌≤◌}
 use native.Mathlib.Omega.{arith}
-use borrow.Author.Rules.{rules}
 use borrow.Author.Tests.{leb-true}
 use Rattle.dubins.specs.Cases.{straight_of, straight_course, case_length}
 use Rattle.dubins.proofs.LeastLaws.{case-reaches, case-parts, course-low, outer-course}

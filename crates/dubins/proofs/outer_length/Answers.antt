@@ -1,6 +1,5 @@
 -- `outer_length` gives the lesser length of RSR and LSL, whichever is tried first. Assumes nothing.
 use mathlib.Core.Path.{refl}
-use borrow.Author.Rules.{rules}
 use Rattle.dubins.specs.declared.Found.TheVariants.{Missing}
 use Rattle.dubins.proofs.OrderLaws.{left-first}
 use Rattle.dubins.proofs.outer_length.Goals as goal

@@ -1,5 +1,4 @@
 -- `path_along` gives the path along a way, with z1 and z2. Assumes nothing.
-use borrow.Author.Rules.{rules}
 use Rattle.dubins.specs.Ways.{path_along}
 use Rattle.dubins.proofs.path_along.Goals as goal
 

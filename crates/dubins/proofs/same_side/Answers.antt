@@ -1,7 +1,6 @@
 -- `same_side` tells RSR and LSL. Assumes nothing.
 use mathlib.Core.Path.{sym, ap, ◌∙◌}
 use mathlib.Core.Bool.{not}
-use borrow.Author.Rules.{rules}
 use Rattle.conditions.proofs.ChooseLaws.{choose-true, choose-false}
 use Rattle.dubins.specs.Cases.{starts_right, ends_right, same_side}
 use Rattle.dubins.proofs.same_side.Goals as goal

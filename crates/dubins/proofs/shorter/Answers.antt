@@ -1,7 +1,6 @@
 -- `shorter` gives the way whose path is the shorter of two, the earlier on a tie. Assumes nothing.
 use mathlib.Core.Path.{subst}
 use native.Mathlib.Omega.{arith}
-use borrow.Author.Rules.{rules}
 use Rattle.dubins.specs.Choice.{shorter_of}
 use Rattle.dubins.specs.Ways.{IsTried, path_along, found_by}
 use Rattle.dubins.proofs.ShortestLaws.{earlier-wins, later-wins}

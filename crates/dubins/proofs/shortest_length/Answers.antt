@@ -1,7 +1,6 @@
 -- `shortest_length` tries RSR and LSL, then RSL and LSR, and keeps the least length, which is that of any order. Assumes nothing.
 use mathlib.Core.Path.{subst}
 use native.Mathlib.Omega.{arith}
-use borrow.Author.Rules.{rules}
 use Rattle.dubins.specs.declared.Found.{Found}
 use Rattle.dubins.specs.Choice.{shortest_of}
 use Rattle.dubins.specs.Ways.{Measures}

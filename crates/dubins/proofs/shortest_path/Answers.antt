@@ -1,6 +1,5 @@
 -- `shortest_path` gives the shortest of the four cases, the earliest on a tie. Assumes nothing.
 use mathlib.Core.Path.{◌≡◌, ◌∙◌}
-use borrow.Author.Rules.{rules}
 use Rattle.dubins.specs.Choice.{shortest_of}
 use Rattle.dubins.specs.Ways.{found_by}
 use Rattle.dubins.proofs.HandLegLaws.{hand-legs}

@@ -1,6 +1,5 @@
 -- `straight_course` gives the course of the straight part. Assumes nothing.
 use mathlib.Core.Path.{sym, ◌∙◌}
-use borrow.Author.Rules.{rules}
 use Rattle.conditions.specs.Choose.{choose}
 use Rattle.dubins.specs.Cases.{straight_course}
 use Rattle.dubins.proofs.straight_course.Goals as goal

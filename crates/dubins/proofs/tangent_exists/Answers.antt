@@ -2,7 +2,6 @@
 use mathlib.Core.Path.{sym, ap, ◌∙◌}
 use native.Mathlib.Nat.{mul-le-mul}
 use native.Mathlib.Omega.{arith}
-use borrow.Author.Rules.{rules}
 use lib.Dec.{leb, ltb}
 use Rattle.dubins.proofs.ExistenceLaws.{outer-test, inner-test}
 use Rattle.dubins.proofs.tangent_exists.Goals as goal

@@ -1,6 +1,5 @@
 -- `touch` gives where the straight part touches a circle. Assumes nothing.
 use mathlib.Core.Path.{◌∙◌}
-use borrow.Author.Rules.{rules}
 use Rattle.dubins.specs.Cases.{touch_of}
 use Rattle.dubins.proofs.PathBounds.{offset_near}
 use Rattle.dubins.proofs.touch.Goals as goal

@@ -2,7 +2,6 @@
 use mathlib.Core.Path.{sym, ◌∙◌}
 use native.Mathlib.Omega.{arith}
 use lib.IntN.{pos, ◌-ℤ◌}
-use borrow.Author.Rules.{rules}
 use Rattle.conditions.proofs.ChooseLaws.{choose-true, choose-false}
 use Rattle.integers.specs.Wrap.{wrap_of}
 use Rattle.integers.proofs.WrapLaws.{wrap-sub}

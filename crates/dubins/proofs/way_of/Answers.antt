@@ -1,5 +1,4 @@
 -- `way_of` gives the way of a case, with its length. Assumes nothing.
-use borrow.Author.Rules.{rules}
 use Rattle.dubins.specs.Cases.{path_of}
 use Rattle.dubins.specs.Ways.{path_along}
 use Rattle.dubins.proofs.way_of.Goals as goal

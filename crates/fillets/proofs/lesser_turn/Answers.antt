@@ -1,7 +1,6 @@
 -- `lesser_turn` gives the lesser way round between two courses. Assumes nothing.
 use Prim.Native.Nat.{◌+◌, ◌-◌, ◌%◌}
 use native.Mathlib.Omega.{arith}
-use borrow.Author.Rules.{rules}
 use borrow.Author.Tests.{le-leb, lt-leb}
 use Rattle.conditions.specs.Choose.{choose}
 use Rattle.integers.proofs.WrapLaws.{wrap-sub}

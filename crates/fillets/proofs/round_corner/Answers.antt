@@ -1,9 +1,8 @@
 -- `round_corner` gives the corner at a point. Assumes nothing.
 use mathlib.Core.Path.{◌≡◌, sym, ◌∙◌, subst}
 use Prim.Native.Nat.{ℕ, ◌≤◌}
-use borrow.Author.Rules.{rules}
 use Rattle.course.specs.Bearing.{bearing_of}
-use Rattle.fillets.specs.Corners.{lesser_turn, turn_between, corner_turn, tangent_of, corner_of}
+use Rattle.fillets.specs.Corners.{lesser_turn, turn_between, corner_turn, corner_of}
 use Rattle.fillets.proofs.round_corner.Goals as goal
 use Rattle.fillets.proofs.round_corner.Goals.{After-lesser_turn}
 

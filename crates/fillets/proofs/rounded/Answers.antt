@@ -1,8 +1,7 @@
 -- `rounded` gives a corner's arc. Assumes nothing.
-use mathlib.Core.Path.{◌≡◌, sym, subst, ◌∙◌}
+use mathlib.Core.Path.{sym, subst, ◌∙◌}
 use lib.Dec.{leb→le}
 use native.Mathlib.Nat.{le_trans}
-use borrow.Author.Rules.{rules}
 use Rattle.course.specs.Vectors.{Near}
 use Rattle.course.proofs.VectorLaws.{near_le}
 use Rattle.plane.specs.Level.{minus}

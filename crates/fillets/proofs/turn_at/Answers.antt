@@ -1,6 +1,5 @@
 -- `turn_at` gives the turn at a point. Assumes nothing.
 use mathlib.Core.Path.{◌∙◌}
-use borrow.Author.Rules.{rules}
 use Rattle.fillets.specs.Corners.{turn_between, corner_turn}
 use Rattle.fillets.proofs.turn_at.Goals as goal
 

@@ -1,6 +1,5 @@
 -- `turn_between` gives the turn between two legs. Assumes nothing.
 use mathlib.Core.Path.{◌∙◌}
-use borrow.Author.Rules.{rules}
 use Rattle.fillets.specs.Corners.{lesser_turn, turn_between}
 use Rattle.fillets.proofs.turn_between.Goals as goal
 

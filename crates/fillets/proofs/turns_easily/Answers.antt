@@ -5,7 +5,6 @@ use lib.IntN.{ℤ, pos, ◌+ℤ◌, ◌-ℤ◌, ◌*ℤ◌}
 use lib.Signed.{lt_z}
 use mir.Syntax.{w64}
 use mir.Val.{to_z, of_z}
-use borrow.Author.Rules.{rules}
 use Rattle.integers.proofs.BoundLaws.{overflow, kept}
 use Rattle.integers.proofs.ValueLaws.{Reads, value, uneven}
 use Rattle.fillets.proofs.EasyLaws.{easy-not-left, easy-not-right, easily-carried}

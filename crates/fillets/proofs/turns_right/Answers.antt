@@ -3,7 +3,6 @@ use mathlib.Core.Path.{ap, ◌∙◌}
 use lib.IntN.{pos}
 use lib.Signed.{le_z}
 use mir.Syntax.{w64}
-use borrow.Author.Rules.{rules}
 use Rattle.integers.proofs.BoundLaws.{kept}
 use Rattle.fillets.specs.Corners.{right_of}
 use Rattle.fillets.proofs.turns_right.Goals as goal

@@ -1,13 +1,12 @@
 -- `circle_command` gives the command of a circle. Assumes nothing.
-use mathlib.Core.Path.{◌≡◌, sym, ap, ◌∙◌}
+use mathlib.Core.Path.{ap, ◌∙◌}
 use lib.IntN.{pos}
 use mir.Syntax.{w8}
-use borrow.Author.Rules.{rules}
 use Rattle.integers.proofs.BoundLaws.{bound, kept}
 use Rattle.integers.proofs.ValueLaws.{value, is}
 use Rattle.units.specs.Metres.{metres_of}
 use Rattle.guidance.specs.declared.Command.TheVariants.{Circle}
-use Rattle.guidance.specs.Commands.{sense_of, circle_command}
+use Rattle.guidance.specs.Commands.{circle_command}
 use Rattle.guidance.proofs.CommandLaws.{command-means}
 use Rattle.guidance.proofs.circle_command.Goals as goal
 

@@ -1,6 +1,5 @@
 -- `circle_guide` gives the guidance of a circle. Assumes nothing.
-use mathlib.Core.Path.{◌≡◌, sym, ap, ◌∙◌}
-use borrow.Author.Rules.{rules}
+use mathlib.Core.Path.{ap, ◌∙◌}
 use Rattle.course.specs.declared.Vector.{Vector}
 use Rattle.heading.specs.Heading.{circle_heading}
 use Rattle.guidance.specs.Guide.{circle_guide}

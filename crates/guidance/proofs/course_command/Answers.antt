@@ -1,7 +1,6 @@
 -- `course_command` gives the line along a course. Assumes nothing.
-use mathlib.Core.Path.{◌≡◌, sym, ap, ◌∙◌}
+use mathlib.Core.Path.{ap, ◌∙◌}
 use mir.Syntax.{w64}
-use borrow.Author.Rules.{rules}
 use Rattle.integers.proofs.BoundLaws.{kept}
 use Rattle.course.specs.declared.Vector.{Vector}
 use Rattle.course.specs.Direction.{direction_of}

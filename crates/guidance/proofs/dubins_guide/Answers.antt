@@ -1,8 +1,6 @@
 -- `dubins_guide` gives the guidance of Dubins legs. Assumes nothing.
-use mathlib.Core.Path.{◌≡◌, sym, ap, ◌∙◌}
-use mathlib.Core.Bool.{Bool}
+use mathlib.Core.Path.{◌∙◌}
 use borrow.Author.Tests.{eq-eqb, ne_eqb, lt-ltb, le-ltb}
-use borrow.Author.Rules.{rules}
 use Rattle.conditions.specs.Choose.{choose}
 use Rattle.guidance.specs.Guide.{circle_guide, dubins_guide}
 use Rattle.guidance.proofs.dubins_guide.Goals as goal

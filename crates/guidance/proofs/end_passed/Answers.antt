@@ -1,8 +1,7 @@
 -- `end_passed` decides the end of phases 4 and 5. Assumes nothing.
-use mathlib.Core.Path.{◌≡◌, sym, ap, ◌∙◌}
+use mathlib.Core.Path.{ap, ◌∙◌}
 use native.Mathlib.Omega.{arith}
 use borrow.Author.Tests.{eq-eqb, ne_eqb}
-use borrow.Author.Rules.{rules}
 use Rattle.conditions.specs.Choose.{choose}
 use Rattle.course.specs.declared.Vector.{Vector}
 use Rattle.guidance.specs.Guide.{short_of, reached_of, end_passed}

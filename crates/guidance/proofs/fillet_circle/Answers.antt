@@ -1,10 +1,7 @@
 -- `fillet_circle` gives the guidance of phase circle. Assumes nothing.
-use mathlib.Core.Path.{◌≡◌, sym, ap, ◌∙◌}
+use mathlib.Core.Path.{ap, ◌∙◌}
 use mathlib.Core.Bool.{Bool}
-use lib.Dec.{leb→le}
-use borrow.Author.Rules.{rules}
 use Rattle.course.specs.declared.Vector.{Vector}
-use Rattle.course.proofs.VectorLaws.{near_le}
 use Rattle.guidance.specs.Guide.{past_of, circle_guide, fillet_circle}
 use Rattle.guidance.proofs.fillet_circle.Goals as goal
 

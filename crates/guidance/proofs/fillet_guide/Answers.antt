@@ -1,8 +1,6 @@
 -- `fillet_guide` gives the guidance of fillets. Assumes nothing.
-use mathlib.Core.Path.{◌≡◌, sym, ap, ◌∙◌}
-use lib.Dec.{eqb}
+use mathlib.Core.Path.{ap, ◌∙◌}
 use borrow.Author.Tests.{eq-eqb, ne_eqb}
-use borrow.Author.Rules.{rules}
 use Rattle.conditions.specs.Choose.{choose}
 use Rattle.fillets.specs.declared.Corner.{Corner}
 use Rattle.guidance.specs.Guide.{fillet_line, fillet_circle, fillet_guide}

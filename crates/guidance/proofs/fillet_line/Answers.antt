@@ -1,7 +1,6 @@
 -- `fillet_line` gives the guidance of phase line. Assumes nothing.
 use mathlib.Core.Path.{ap, ◌∙◌}
 use mathlib.Core.Bool.{Bool}
-use borrow.Author.Rules.{rules}
 use Rattle.course.specs.declared.Vector.{Vector}
 use Rattle.guidance.specs.Guide.{past_of, leg_guide, fillet_line}
 use Rattle.guidance.proofs.fillet_line.Goals as goal

@@ -1,7 +1,6 @@
 -- `last_leg_guide` gives the guidance of the last leg. Assumes nothing.
 use mathlib.Core.Path.{ap, ◌∙◌}
 use mathlib.Core.Bool.{Bool}
-use borrow.Author.Rules.{rules}
 use Rattle.guidance.specs.Guide.{leg_guide, last_leg_guide}
 use Rattle.guidance.proofs.last_leg_guide.Goals as goal
 

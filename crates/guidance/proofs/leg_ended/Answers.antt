@@ -3,7 +3,6 @@ use mathlib.Core.Path.{sym, ap, ◌∙◌}
 use lib.IntN.{pos}
 use lib.Signed.{le_z}
 use mir.Syntax.{w64}
-use borrow.Author.Rules.{rules}
 use Rattle.conditions.proofs.ChooseLaws.{choose-true, choose-false}
 use Rattle.integers.proofs.BoundLaws.{kept}
 use Rattle.plane.specs.Half.{dot3_of}

@@ -1,5 +1,4 @@
 -- `leg_guide` gives the guidance along a leg. Assumes nothing.
-use borrow.Author.Rules.{rules}
 use Rattle.guidance.specs.Guide.{leg_guide}
 use Rattle.guidance.proofs.leg_guide.Goals as goal
 

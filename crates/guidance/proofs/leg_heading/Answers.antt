@@ -1,6 +1,5 @@
 -- `leg_heading` gives the heading on a leg. Assumes nothing.
-use mathlib.Core.Path.{◌≡◌, sym, ap, ◌∙◌}
-use borrow.Author.Rules.{rules}
+use mathlib.Core.Path.{ap, ◌∙◌}
 use Rattle.course.specs.declared.Vector.{Vector}
 use Rattle.heading.specs.Heading.{line_heading}
 use Rattle.guidance.specs.Guide.{from_of, leg_heading}

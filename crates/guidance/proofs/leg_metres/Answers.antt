@@ -1,7 +1,6 @@
 -- `leg_metres` gives a leg in metres. Assumes nothing.
-use mathlib.Core.Path.{◌≡◌, sym, ap, ◌∙◌}
+use mathlib.Core.Path.{ap, ◌∙◌}
 use mir.Syntax.{w64}
-use borrow.Author.Rules.{rules}
 use Rattle.integers.proofs.BoundLaws.{bound, kept}
 use Rattle.units.specs.Metres.{metres_of}
 use Rattle.guidance.specs.Commands.{leg_metres}

@@ -1,6 +1,5 @@
 -- `line_command` gives the line of a leg. Assumes nothing.
-use mathlib.Core.Path.{◌≡◌, sym, ap, ◌∙◌}
-use borrow.Author.Rules.{rules}
+use mathlib.Core.Path.{ap, ◌∙◌}
 use Rattle.course.specs.declared.Vector.{Vector}
 use Rattle.guidance.specs.declared.Command.TheVariants.{Line}
 use Rattle.guidance.specs.Commands.{place_metres, leg_metres, line_command}

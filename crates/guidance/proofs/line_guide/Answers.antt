@@ -1,7 +1,6 @@
 -- `line_guide` gives the guidance of lines. Assumes nothing.
 use mathlib.Core.Path.{ap, ◌∙◌}
 use mathlib.Core.Bool.{Bool}
-use borrow.Author.Rules.{rules}
 use Rattle.plane.specs.Half.{met_of}
 use Rattle.guidance.specs.Guide.{leg_guide, line_guide}
 use Rattle.guidance.proofs.line_guide.Goals as goal

@@ -1,9 +1,8 @@
 -- `past` decides whether the position lies past a place along a leg. Assumes nothing.
-use mathlib.Core.Path.{◌≡◌, sym, ap, ◌∙◌}
+use mathlib.Core.Path.{ap, ◌∙◌}
 use lib.IntN.{pos}
 use lib.Signed.{le_z}
 use mir.Syntax.{w64}
-use borrow.Author.Rules.{rules}
 use Rattle.integers.proofs.BoundLaws.{kept}
 use Rattle.course.specs.declared.Vector.{Vector}
 use Rattle.plane.specs.Level.{dot_of}

@@ -1,9 +1,6 @@
 -- `place_metres` gives a place in metres. Assumes nothing.
-use mathlib.Core.Path.{◌≡◌, sym, ap, ◌∙◌}
-use lib.IntN.{ℤ}
+use mathlib.Core.Path.{ap, ◌∙◌}
 use mir.Syntax.{w64}
-use mir.Val.{to_z, of_z}
-use borrow.Author.Rules.{rules}
 use Rattle.integers.proofs.BoundLaws.{overflow, bound, kept}
 use Rattle.integers.proofs.ValueLaws.{value, is}
 use Rattle.units.specs.Metres.{metres_of}

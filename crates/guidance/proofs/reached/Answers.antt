@@ -1,9 +1,8 @@
 -- `reached` decides whether the position lies at a place or beyond it. Assumes nothing.
-use mathlib.Core.Path.{◌≡◌, sym, ap, ◌∙◌}
-use lib.IntN.{ℤ, pos}
+use mathlib.Core.Path.{ap, ◌∙◌}
+use lib.IntN.{pos}
 use lib.Signed.{le_z}
 use mir.Syntax.{w64}
-use borrow.Author.Rules.{rules}
 use Rattle.integers.proofs.BoundLaws.{kept}
 use Rattle.course.specs.declared.Vector.{Vector}
 use Rattle.course.specs.Direction.{direction_of}

@@ -1,7 +1,6 @@
 -- `sense` gives +1 or −1. Assumes nothing.
 use mathlib.Core.Path.{refl}
 use Rattle.integers.proofs.BoundLaws.{within-lit}
-use Rattle.guidance.specs.Commands.{sense_of}
 use Rattle.guidance.proofs.sense.Goals as goal
 
 pub returns-then-right : goal.returns-then-right

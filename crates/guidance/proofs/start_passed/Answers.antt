@@ -1,7 +1,5 @@
 -- `start_passed` decides the end of phases 1 and 2. Assumes nothing.
-use mathlib.Core.Path.{◌≡◌, sym, ap, ◌∙◌}
 use borrow.Author.Tests.{eq-eqb, ne_eqb}
-use borrow.Author.Rules.{rules}
 use Rattle.conditions.specs.Choose.{choose}
 use Rattle.guidance.specs.Guide.{start_passed}
 use Rattle.guidance.proofs.start_passed.Goals as goal

@@ -1,6 +1,5 @@
 -- `straight_guide` gives the guidance of a straight part. Assumes nothing.
-use mathlib.Core.Path.{◌≡◌, sym, ap, ◌∙◌}
-use borrow.Author.Rules.{rules}
+use mathlib.Core.Path.{◌∙◌}
 use Rattle.heading.specs.Heading.{line_heading}
 use Rattle.guidance.specs.Guide.{straight_guide}
 use Rattle.guidance.proofs.straight_guide.Goals as goal

@@ -1,7 +1,5 @@
 -- `circle_angle` gives b of the circle law. Assumes nothing.
-use mathlib.Core.Path.{◌≡◌, ap, ◌∙◌}
-use lib.IntN.{pos, ◌-ℤ◌, ◌*ℤ◌}
-use borrow.Author.Rules.{rules}
+use mathlib.Core.Path.{ap, ◌∙◌}
 use Rattle.integers.proofs.BoundLaws.{overflow, bound, bits-is-within, passed_on}
 use Rattle.integers.proofs.ValueLaws.{value, uneven, is}
 use Rattle.course.specs.Bearing.{signed_bearing_of}

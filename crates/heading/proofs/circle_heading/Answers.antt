@@ -1,7 +1,6 @@
 -- `circle_heading` gives the heading on a circle. Assumes nothing.
-use mathlib.Core.Path.{◌≡◌, ap, ◌∙◌}
+use mathlib.Core.Path.{ap, ◌∙◌}
 use mir.Syntax.{w64}
-use borrow.Author.Rules.{rules}
 use Rattle.integers.proofs.BoundLaws.{kept}
 use Rattle.heading.specs.Heading.{circle_angle, round_heading, circle_heading}
 use Rattle.heading.proofs.CheckedExamples.{circle-examples}

@@ -5,7 +5,6 @@ use native.Mathlib.Omega.{arith}
 use lib.IntN.{pos}
 use mir.Syntax.{w64}
 use mir.Val.{to_z}
-use borrow.Author.Rules.{rules}
 use Rattle.integers.proofs.BoundLaws.{bound, kept, passed_on}
 use Rattle.integers.proofs.ValueLaws.{value, via}
 use Rattle.course.specs.Bearing.{signed_bearing_of}

@@ -1,7 +1,6 @@
 -- `float_of` makes a float of a whole number by its bits, which are no NaN's. Assumes nothing.
 use mathlib.Core.Path.{refl}
 use native.Mathlib.Omega.{arith}
-use borrow.Author.Rules.{rules}
 use lib.Ieee.{of_bits}
 use Rattle.integers.specs.Floats.{float_from}
 use Rattle.integers.proofs.FloatLaws.{plain-bits}

@@ -1,6 +1,5 @@
 -- `long_product` gives w · a in three digits, by two products and one carry. Assumes nothing.
 use native.Mathlib.Omega.{arith}
-use borrow.Author.Rules.{rules}
 use Rattle.integers.specs.Wide.{base, triple_of}
 use Rattle.integers.proofs.WideLaws.{carry}
 use Rattle.integers.proofs.long_product.Goals as goal

@@ -5,7 +5,6 @@ use native.Mathlib.Omega.{arith}
 use lib.IntN.{pos, neg_ℤ, nat_abs}
 use lib.Signed.{nat_abs-le}
 use mir.Facts.{to_z-of_z}
-use borrow.Author.Rules.{rules}
 use Rattle.integers.proofs.BoundLaws.{overflow}
 use Rattle.integers.proofs.ValueLaws.{value, via}
 use Rattle.integers.proofs.Tests.{lt_yes, lt_no}

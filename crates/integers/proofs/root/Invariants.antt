@@ -1,9 +1,5 @@
 -- What the loops of `root` keep, and what falls with each round. Assumes nothing.
-use mathlib.Core.Path.{◌≡◌}
-use native.Mathlib.Omega.{arith}
-use Rattle.integers.specs.Root.{IsRoot}
-use Rattle.integers.proofs.DigitLaws.{Digits, Round, round, next_one, next-zero}
-use Rattle.integers.proofs.RootLaws.{root-only}
+use Rattle.integers.proofs.DigitLaws.{Digits}
 use Rattle.integers.proofs.root.Given as goal
 
 abbrev pub invariant-loop-rounds : goal.invariant-loop-rounds

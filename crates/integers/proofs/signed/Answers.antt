@@ -1,5 +1,4 @@
 -- `signed` reads two's complement: from 2^31 up it subtracts from -1 what lacks to 2^32 - 1. Assumes nothing.
-use borrow.Author.Rules.{rules}
 use Rattle.integers.proofs.TwosComplementLaws.{signed-fits, signed_is}
 use Rattle.integers.proofs.signed.Goals as goal
 

@@ -1,5 +1,4 @@
 -- `at_end` decides whether a flight is at the last index and phase. Assumes nothing.
-use borrow.Author.Rules.{rules}
 use Rattle.manager.specs.State.{at_end}
 use Rattle.manager.proofs.at_end.Goals as goal
 

@@ -1,7 +1,6 @@
 -- `decide` answers one fix of any numbers, progress, serial and floats. Assumes nothing.
 use mathlib.Core.Path.{subst}
 use borrow.Author.Tests.{eq-eqb, ne_eqb}
-use borrow.Author.Rules.{rules}
 use Rattle.units.specs.Position.{IsPosition}
 use Rattle.manager.specs.Step.{refuse_of, located_step}
 use Rattle.manager.proofs.StepLaws.{step-13, step-14, step-15, step-located}

@@ -1,5 +1,4 @@
 -- `end_fits` decides whether a finished flight is at its end. Assumes nothing.
-use borrow.Author.Rules.{rules}
 use Rattle.conditions.proofs.ChooseLaws.{choose-true, choose-false}
 use Rattle.manager.specs.State.{end_fits}
 use Rattle.manager.proofs.end_fits.Goals as goal

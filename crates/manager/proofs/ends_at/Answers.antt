@@ -1,5 +1,4 @@
 -- `ends_at` gives the leg of a Dubins plan. Assumes nothing.
-use borrow.Author.Rules.{rules}
 use Rattle.plan.proofs.PlaceLaws.{course-low}
 use Rattle.manager.proofs.ends_at.Goals as goal
 

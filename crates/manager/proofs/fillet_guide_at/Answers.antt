@@ -1,5 +1,4 @@
 -- `fillet_guide_at` gives the guidance of fillets on a leg. Assumes nothing.
-use borrow.Author.Rules.{rules}
 use Rattle.conditions.specs.Choose.{choose}
 use Rattle.manager.proofs.fillet_guide_at.Goals as goal
 

@@ -1,6 +1,5 @@
 -- `guide` gives the guidance at an index and phase. Assumes nothing.
 use mathlib.Core.Path.{sym, ◌∙◌}
-use borrow.Author.Rules.{rules}
 use Rattle.plane.specs.Area.{InArea}
 use Rattle.plan.proofs.PlaceLaws.{area-at}
 use Rattle.manager.specs.Step.{guide_of}

@@ -1,5 +1,4 @@
 -- `index_fits` decides whether the index is one that a plan has. Assumes nothing.
-use borrow.Author.Rules.{rules}
 use Rattle.manager.specs.State.{index_fits}
 use Rattle.manager.proofs.index_fits.Goals as goal
 

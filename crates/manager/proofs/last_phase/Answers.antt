@@ -1,5 +1,4 @@
 -- `last_phase` gives the last phase at an index. Assumes nothing.
-use borrow.Author.Rules.{rules}
 use Rattle.conditions.specs.Choose.{choose}
 use Rattle.manager.specs.State.{last_phase}
 use Rattle.manager.proofs.last_phase.Goals as goal

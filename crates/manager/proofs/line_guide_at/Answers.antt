@@ -1,5 +1,4 @@
 -- `line_guide_at` gives the guidance of lines on a leg. Assumes nothing.
-use borrow.Author.Rules.{rules}
 use Rattle.conditions.specs.Choose.{choose}
 use Rattle.manager.proofs.line_guide_at.Goals as goal
 

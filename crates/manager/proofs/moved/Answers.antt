@@ -1,5 +1,4 @@
 -- `moved` answers a fix that no number refuses. Assumes nothing.
-use borrow.Author.Rules.{rules}
 use Rattle.manager.specs.Step.{moved_of}
 use Rattle.manager.proofs.StateLaws.{index-most}
 use Rattle.manager.proofs.moved.Goals as goal

@@ -1,6 +1,5 @@
 -- `next` gives how far a plan is flown after a fix. Assumes nothing.
 use borrow.Author.Tests.{lt-ltb, le-ltb}
-use borrow.Author.Rules.{rules}
 use Rattle.conditions.specs.Choose.{choose}
 use Rattle.manager.specs.Step.{next_of}
 use Rattle.manager.proofs.next.Goals as goal

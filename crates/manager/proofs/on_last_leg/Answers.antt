@@ -1,5 +1,4 @@
 -- `on_last_leg` decides whether a leg is the last one. Assumes nothing.
-use borrow.Author.Rules.{rules}
 use Rattle.manager.specs.State.{on_last_leg}
 use Rattle.manager.proofs.on_last_leg.Goals as goal
 

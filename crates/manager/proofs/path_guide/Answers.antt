@@ -1,7 +1,6 @@
 -- `path_guide` gives the guidance on a Dubins leg. Assumes nothing.
 use mathlib.Core.Path.{refl, sym, ◌∙◌, subst}
 use native.Mathlib.Omega.{arith}
-use borrow.Author.Rules.{rules}
 use Rattle.dubins.specs.Limits.{IsFound}
 use Rattle.manager.specs.Step.{path_guide}
 use Rattle.manager.proofs.path_guide.Goals as goal

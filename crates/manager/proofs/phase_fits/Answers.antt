@@ -1,5 +1,4 @@
 -- `phase_fits` decides whether the phase is one that the mode allows. Assumes nothing.
-use borrow.Author.Rules.{rules}
 use Rattle.manager.specs.State.{phase_fits}
 use Rattle.manager.proofs.phase_fits.Goals as goal
 

@@ -1,5 +1,4 @@
 -- `placed` decides whether index, phase and finished are such as the mode allows. Assumes nothing.
-use borrow.Author.Rules.{rules}
 use Rattle.manager.specs.State.{placed_of}
 use Rattle.manager.proofs.placed.Goals as goal
 

@@ -1,6 +1,5 @@
 -- `valid` decides refusal 14. Assumes nothing.
 use mathlib.Core.Path.{sym, ◌∙◌}
-use borrow.Author.Rules.{rules}
 use Rattle.conditions.proofs.Bools.{both-on, both-off}
 use Rattle.plan.proofs.LimitLaws.{told}
 use Rattle.manager.specs.State.{valid_of}

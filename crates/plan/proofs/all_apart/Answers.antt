@@ -1,15 +1,12 @@
 -- `all_apart` decides whether refusal 10 passes: no pair is equal so far exactly where all so far pass. Assumes nothing.
-use mathlib.Core.Path.{◌≡◌, refl, sym, ◌∙◌, ap}
-use mathlib.Core.Logic.{inl, inr}
-use mathlib.Core.Bool.{Bool, true, false}
-use mathlib.Core.List.{List}
-use Prim.Native.Nat.{ℕ, ◌-◌, ◌≤◌}
+use mathlib.Core.Path.{refl, sym, ◌∙◌, ap}
+use mathlib.Core.Bool.{true, false}
+use Prim.Native.Nat.{ℕ, ◌-◌}
 use lib.Dec.{eqb}
-use lib.IntN.{ℤ}
 use borrow.Author.Tests.{eq-eqb, ne_eqb}
 use Rattle.conditions.proofs.Bools.{both-on}
 use Rattle.refusals.specs.Sweep.{every}
-use Rattle.refusals.proofs.SweepLaws.{passing, passing-all}
+use Rattle.refusals.proofs.SweepLaws.{passing-all}
 use Rattle.plan.specs.Places.{place_at}
 use Rattle.plan.specs.Rules.{pair_at, pairs_of}
 use Rattle.plan.proofs.PlaceLaws.{pair-there}

@@ -1,20 +1,14 @@
 -- What the loops of `all_apart` keep, and what falls with each round. Assumes nothing.
-use mathlib.Core.Path.{◌≡◌, refl, sym, ◌∙◌, ap}
-use mathlib.Core.Logic.{inl, inr}
-use mathlib.Core.Bool.{Bool, true, false}
+use mathlib.Core.Path.{◌≡◌}
+use mathlib.Core.Bool.{Bool}
 use mathlib.Core.List.{List}
 use Prim.Native.Nat.{ℕ, ◌-◌, ◌≤◌}
 use lib.Dec.{eqb}
 use lib.IntN.{ℤ}
-use borrow.Author.Tests.{eq-eqb, ne_eqb}
-use Rattle.conditions.proofs.Bools.{both-on}
 use Rattle.refusals.specs.Sweep.{every}
-use Rattle.refusals.proofs.SweepLaws.{passing, passing-all}
+use Rattle.refusals.proofs.SweepLaws.{passing}
 use Rattle.plan.specs.Places.{place_at}
-use Rattle.plan.specs.Rules.{pair_at, pairs_of}
-use Rattle.plan.proofs.PlaceLaws.{pair-there}
-use Rattle.plan.proofs.SweptLaws.{counted_next, every-good}
-use native.Mathlib.Omega.{arith}
+use Rattle.plan.specs.Rules.{pair_at}
 use Rattle.plan.proofs.all_apart.Given as goal
 
 abbrev pub apart : List ℤ → List ℤ → List ℤ → ℕ → Bool

@@ -7,7 +7,7 @@ use Rattle.conditions.proofs.Bools.{clash}
 use Rattle.plan.specs.Places.{place_at, no_course}
 use Rattle.plan.specs.Stands.{LongAt, EasyAt}
 use Rattle.plan.proofs.PlaceLaws.{pair-placed, corner-placed}
-use Rattle.plan.proofs.EasyPlanLaws.{Easily, easily-start, easily-next, easily-last}
+use Rattle.plan.proofs.EasyPlanLaws.{easily-start, easily-next, easily-last}
 use Rattle.plan.proofs.all_easy.Goals as goal
 
 pub easy_square-least-requires : goal.easy_square-least-requires

@@ -2,7 +2,6 @@
 use mathlib.Core.Path.{sym, ◌∙◌}
 use Rattle.plan.specs.Places.{place_at, course_at, no_course}
 use Rattle.plan.proofs.RuleLaws.{line-rest, fillet-rest, dubins-rest}
-use borrow.Author.Rules.{rules}
 use Rattle.plan.proofs.corners_and_legs.Goals as goal
 
 pub returns-in-Lines : goal.returns-in-Lines

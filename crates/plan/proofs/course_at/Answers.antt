@@ -1,7 +1,6 @@
 -- `course_at` reads a course, which is not negative. Assumes nothing.
 use Rattle.plan.specs.Places.{number_at}
 use Rattle.plan.proofs.PlaceLaws.{course-casts}
-use borrow.Author.Rules.{rules}
 use Rattle.plan.proofs.course_at.Goals as goal
 
 pub overflow_cast-result : goal.overflow_cast-result

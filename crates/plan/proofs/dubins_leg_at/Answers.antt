@@ -1,7 +1,6 @@
 -- `dubins_leg_at` gives refusal 12 or 17 of a leg by its ends. Assumes nothing.
 use mathlib.Core.Path.{ap, ◌∙◌}
 use Rattle.plan.specs.Rules.{ends_number}
-use borrow.Author.Rules.{rules}
 use Rattle.plan.proofs.dubins_leg_at.Goals as goal
 
 pub returns : goal.returns

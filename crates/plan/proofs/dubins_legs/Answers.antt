@@ -1,9 +1,7 @@
 -- `dubins_legs` sweeps the legs of a Dubins plan for refusals 12 and 17. Assumes nothing.
-use Rattle.plan.specs.declared.Mode.TheVariants.{Dubins}
-use Rattle.plan.specs.Places.{place_at, course_at}
 use Rattle.plan.specs.Rules.{leg_number, legs_of}
 use Rattle.plan.proofs.PlaceLaws.{pair-placed}
-use Rattle.plan.proofs.SweptLaws.{Swept, swept-start, swept-next, swept-hit, swept-stop}
+use Rattle.plan.proofs.SweptLaws.{swept-start, swept-next, swept-hit, swept-stop}
 use native.Mathlib.Omega.{arith}
 use Prim.Native.Nat.{◌-◌}
 use Rattle.plan.proofs.dubins_legs.Goals as goal

@@ -1,10 +1,8 @@
 -- What the loops of `dubins_legs` keep, and what falls with each round. Assumes nothing.
 use Rattle.plan.specs.declared.Mode.TheVariants.{Dubins}
 use Rattle.plan.specs.Places.{place_at, course_at}
-use Rattle.plan.specs.Rules.{leg_number, legs_of}
-use Rattle.plan.proofs.PlaceLaws.{pair-placed}
-use Rattle.plan.proofs.SweptLaws.{Swept, swept-start, swept-next, swept-hit, swept-stop}
-use native.Mathlib.Omega.{arith}
+use Rattle.plan.specs.Rules.{leg_number}
+use Rattle.plan.proofs.SweptLaws.{Swept}
 use Prim.Native.Nat.{◌-◌}
 use Rattle.plan.proofs.dubins_legs.Given as goal
 

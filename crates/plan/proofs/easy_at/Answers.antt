@@ -2,7 +2,6 @@
 use mathlib.Core.Path.{refl, ap, ◌∙◌, subst}
 use mathlib.Core.Bool.{false}
 use Prim.Native.Nat.{ℕ, ◌≤◌}
-use borrow.Author.Rules.{rules}
 use Rattle.conditions.proofs.Bools.{clash}
 use Rattle.plane.specs.Level.{level_leg_of, square_of}
 use Rattle.fillets.specs.Corners.{turn_between, corner_turn, easy_turn}

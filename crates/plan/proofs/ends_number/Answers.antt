@@ -1,7 +1,6 @@
 -- `ends_number` gives refusals 12 and 17 of a Dubins leg, 12 first. Assumes nothing.
 use mathlib.Core.Path.{sym, ◌∙◌}
 use native.Mathlib.Omega.{arith}
-use borrow.Author.Rules.{rules}
 use Rattle.conditions.specs.Choose.{choose}
 use Rattle.dubins.proofs.FarLaws.{far-exists}
 use Rattle.plan.specs.Rules.{ends_number}

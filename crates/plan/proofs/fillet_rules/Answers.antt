@@ -1,6 +1,5 @@
 -- `fillet_rules` gives refusals 11 and 12 of a fillet plan, with its turns worked out or without. Assumes nothing.
 use mathlib.Core.Path.{sym}
-use borrow.Author.Rules.{rules}
 use Rattle.plan.proofs.fillet_rules.Goals as goal
 
 pub returns-then-all_easy : goal.returns-then-all_easy

@@ -3,7 +3,6 @@ use mathlib.Core.Path.{sym, ap, ◌∙◌}
 use Rattle.refusals.specs.Outcome.{refusal_of}
 use Rattle.plan.specs.Places.{place_at, course_at}
 use Rattle.plan.proofs.RuleLaws.{geometry-pairs, geometry-rest}
-use borrow.Author.Rules.{rules}
 use Rattle.plan.proofs.geometry.Goals as goal
 
 pub all_apart-requires : goal.all_apart-requires

@@ -1,5 +1,4 @@
 -- `given_of` gives the number of courses of a mode. Assumes nothing.
-use borrow.Author.Rules.{rules}
 use Rattle.plan.specs.Stands.{given_of}
 use Rattle.plan.proofs.given_of.Goals as goal
 

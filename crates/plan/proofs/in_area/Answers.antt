@@ -1,7 +1,6 @@
 -- `in_area` decides whether a point lies in the area. Assumes nothing.
 use mathlib.Core.Path.{◌≡◌, sym, ap, ◌∙◌}
 use mathlib.Core.Bool.{false}
-use borrow.Author.Rules.{rules}
 use Rattle.conditions.specs.Both.{both}
 use Rattle.conditions.proofs.Bools.{both-on, both-off}
 use Rattle.integers.proofs.ValueLaws.{value, typed, is}

@@ -1,5 +1,4 @@
 -- `leg_ends` reads the points and the courses at the ends of a leg. Assumes nothing.
-use borrow.Author.Rules.{rules}
 use Rattle.plan.proofs.PlaceLaws.{area-at, course-low}
 use Rattle.plan.proofs.leg_ends.Goals as goal
 

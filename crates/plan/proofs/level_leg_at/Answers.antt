@@ -3,7 +3,6 @@ use mathlib.Core.Path.{ap, ◌∙◌}
 use Rattle.course.specs.Bearing.{bearing_of}
 use Rattle.plane.specs.Level.{level_leg_of, square_of}
 use Rattle.plan.proofs.PlaceLaws.{area-at}
-use borrow.Author.Rules.{rules}
 use Rattle.plan.proofs.level_leg_at.Goals as goal
 
 pub level_leg-leg-requires : goal.level_leg-leg-requires

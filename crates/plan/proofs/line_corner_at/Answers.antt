@@ -3,7 +3,6 @@ use mathlib.Core.Path.{◌∙◌}
 use Rattle.plan.specs.declared.Mode.TheVariants.{Lines}
 use Rattle.plan.specs.Rules.{corner_number}
 use Rattle.plan.proofs.PlaceLaws.{area-at}
-use borrow.Author.Rules.{rules}
 use Rattle.plan.proofs.line_corner_at.Goals as goal
 
 pub line_corner_number-requires : goal.line_corner_number-requires

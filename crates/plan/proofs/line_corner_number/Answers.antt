@@ -1,6 +1,5 @@
 -- `line_corner_number` gives refusal 11 of a corner between lines. Assumes nothing.
 use mathlib.Core.Path.{◌≡◌, sym, ◌∙◌}
-use borrow.Author.Rules.{rules}
 use Rattle.conditions.specs.Choose.{choose}
 use Rattle.plane.specs.Area.{leg_of}
 use Rattle.plane.specs.Half.{opposite_of}

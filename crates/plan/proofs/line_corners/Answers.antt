@@ -1,11 +1,8 @@
 -- `line_corners` sweeps the corners of a plan of lines for refusal 11. Assumes nothing.
-use Rattle.plan.specs.declared.Mode.TheVariants.{Lines}
-use Rattle.plan.specs.Places.{place_at}
-use Rattle.plan.specs.Rules.{corner_at, corners_of}
+use Rattle.plan.specs.Rules.{corners_of}
 use Rattle.plan.proofs.PlaceLaws.{corner-placed}
-use Rattle.plan.proofs.SweptLaws.{Swept, swept-start, swept-next, swept-hit, swept-stop}
+use Rattle.plan.proofs.SweptLaws.{swept-start, swept-next, swept-hit, swept-stop}
 use native.Mathlib.Omega.{arith}
-use Prim.Native.Nat.{◌-◌}
 use Rattle.plan.proofs.line_corners.Goals as goal
 
 pub overflow_sub-last : goal.overflow_sub-last

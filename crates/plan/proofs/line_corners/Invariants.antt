@@ -1,10 +1,8 @@
 -- What the loops of `line_corners` keep, and what falls with each round. Assumes nothing.
 use Rattle.plan.specs.declared.Mode.TheVariants.{Lines}
 use Rattle.plan.specs.Places.{place_at}
-use Rattle.plan.specs.Rules.{corner_at, corners_of}
-use Rattle.plan.proofs.PlaceLaws.{corner-placed}
-use Rattle.plan.proofs.SweptLaws.{Swept, swept-start, swept-next, swept-hit, swept-stop}
-use native.Mathlib.Omega.{arith}
+use Rattle.plan.specs.Rules.{corner_at}
+use Rattle.plan.proofs.SweptLaws.{Swept}
 use Prim.Native.Nat.{◌-◌}
 use Rattle.plan.proofs.line_corners.Given as goal
 

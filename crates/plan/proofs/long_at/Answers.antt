@@ -1,7 +1,6 @@
 -- `long_at` answers yes only of a leg that is so long. Assumes nothing.
 use mathlib.Core.Path.{ap, ◌∙◌, subst}
 use Prim.Native.Nat.{ℕ, ◌≤◌}
-use borrow.Author.Rules.{rules}
 use borrow.Author.Tests.{leb-true}
 use Rattle.plane.specs.Level.{level_leg_of, square_of}
 use Rattle.plan.proofs.PlaceLaws.{area-at}

@@ -2,7 +2,6 @@
 use mathlib.Core.Path.{sym, ◌∙◌}
 use Rattle.conditions.proofs.Bools.{both-on, both-off}
 use Rattle.plan.proofs.StandLaws.{number-parts}
-use borrow.Author.Rules.{rules}
 use Rattle.plan.proofs.number_places_fit.Goals as goal
 
 pub returns-then-values_between : goal.returns-then-values_between

@@ -1,7 +1,6 @@
 -- `pair_at` reads two neighbours and gives their refusal 10. Assumes nothing.
 use mathlib.Core.Path.{◌∙◌}
 use Rattle.plan.specs.Rules.{pair_number}
-use borrow.Author.Rules.{rules}
 use Rattle.plan.proofs.pair_at.Goals as goal
 
 pub returns : goal.returns

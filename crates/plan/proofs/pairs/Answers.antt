@@ -1,10 +1,8 @@
 -- `pairs` sweeps the pairs for refusal 10. Assumes nothing.
-use Rattle.plan.specs.Places.{place_at}
-use Rattle.plan.specs.Rules.{pair_at, pairs_of}
+use Rattle.plan.specs.Rules.{pairs_of}
 use Rattle.plan.proofs.PlaceLaws.{pair-there}
-use Rattle.plan.proofs.SweptLaws.{Swept, swept-start, swept-next, swept-hit, swept-stop}
+use Rattle.plan.proofs.SweptLaws.{swept-start, swept-next, swept-hit, swept-stop}
 use native.Mathlib.Omega.{arith}
-use Prim.Native.Nat.{◌-◌}
 use Rattle.plan.proofs.pairs.Goals as goal
 
 pub loop-i-init : goal.loop-i-init

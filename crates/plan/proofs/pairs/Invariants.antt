@@ -1,9 +1,7 @@
 -- What the loops of `pairs` keep, and what falls with each round. Assumes nothing.
 use Rattle.plan.specs.Places.{place_at}
-use Rattle.plan.specs.Rules.{pair_at, pairs_of}
-use Rattle.plan.proofs.PlaceLaws.{pair-there}
-use Rattle.plan.proofs.SweptLaws.{Swept, swept-start, swept-next, swept-hit, swept-stop}
-use native.Mathlib.Omega.{arith}
+use Rattle.plan.specs.Rules.{pair_at}
+use Rattle.plan.proofs.SweptLaws.{Swept}
 use Prim.Native.Nat.{◌-◌}
 use Rattle.plan.proofs.pairs.Given as goal
 

@@ -7,7 +7,6 @@ use Rattle.plan.specs.Stands.{given_of}
 use Rattle.plan.proofs.StandLaws.{places-parts, points_fit, courses_fit}
 use Rattle.plan.proofs.LoadedLaws.{given-le}
 use native.Mathlib.Omega.{arith}
-use borrow.Author.Rules.{rules}
 use Rattle.plan.proofs.places_fit.Goals as goal
 use Rattle.plan.proofs.places_fit.Goals.{Start}
 

@@ -2,7 +2,6 @@
 use mathlib.Core.Path.{sym, ◌∙◌}
 use Rattle.conditions.proofs.Bools.{both-on, both-off}
 use Rattle.plan.proofs.StandLaws.{points-parts}
-use borrow.Author.Rules.{rules}
 use Rattle.plan.proofs.point_places_fit.Goals as goal
 
 pub returns-then-number_places_fit-2 : goal.returns-then-number_places_fit-2

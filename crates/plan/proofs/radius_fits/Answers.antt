@@ -1,7 +1,6 @@
 -- `radius_fits` decides whether a mode has this radius. Assumes nothing.
 use mathlib.Core.Path.{◌≡◌}
 use lib.Dec.{eqb}
-use borrow.Author.Rules.{rules}
 use Rattle.plan.specs.Limits.{radius_fits}
 use Rattle.plan.proofs.LimitLaws.{told, radius-most}
 use Rattle.plan.proofs.radius_fits.Goals as goal

@@ -6,7 +6,6 @@ use Rattle.plan.specs.Places.{plan_point, plan_course, seen}
 use Rattle.plan.proofs.RuleLaws.{rules-few, rules-many, rules-courses, rules-geometry}
 use Rattle.plan.proofs.StandLaws.{placed-of, aiming_of}
 use native.Mathlib.Omega.{arith}
-use borrow.Author.Rules.{rules}
 use Rattle.plan.proofs.rules.Goals as goal
 use Rattle.plan.proofs.rules.Goals.{Start}
 

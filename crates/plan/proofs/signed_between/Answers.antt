@@ -5,7 +5,6 @@ use Prim.Native.Nat.{◌≤◌}
 use native.Mathlib.Omega.{arith}
 use lib.IntN.{pos, neg_ℤ}
 use lib.Signed.{le_z}
-use borrow.Author.Rules.{rules}
 use Rattle.conditions.specs.Both.{both}
 use Rattle.conditions.proofs.Bools.{both-on, both-off}
 use Rattle.integers.proofs.BoundLaws.{overflow}

@@ -13,7 +13,6 @@ use Rattle.plan.specs.Facts.{PlanFacts}
 use Rattle.plan.proofs.FactLaws.{plan-facts}
 use Rattle.plan.proofs.StandLaws.{stands-found, stands-fails, stands-means, places-mean}
 use native.Mathlib.Omega.{arith}
-use borrow.Author.Rules.{rules}
 use Rattle.plan.proofs.stands.Goals as goal
 use Rattle.plan.proofs.stands.Goals.{Start}
 

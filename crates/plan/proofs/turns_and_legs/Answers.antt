@@ -2,7 +2,7 @@
 use Prim.Native.Nat.{◌-◌}
 use Rattle.plan.specs.Places.{place_at, no_course}
 use Rattle.plan.proofs.PlaceLaws.{corner-placed}
-use Rattle.plan.proofs.FilletLegLaws.{Carried, carried-start, carried-next, corner-refused, last-answer}
+use Rattle.plan.proofs.FilletLegLaws.{carried-start, carried-next, corner-refused, last-answer}
 use native.Mathlib.Omega.{arith}
 use Rattle.plan.proofs.turns_and_legs.Goals as goal
 

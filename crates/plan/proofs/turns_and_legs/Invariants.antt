@@ -1,9 +1,7 @@
 -- What the loops of `turns_and_legs` keep, and what falls with each round. Assumes nothing.
 use Prim.Native.Nat.{◌-◌}
 use Rattle.plan.specs.Places.{place_at, no_course}
-use Rattle.plan.proofs.PlaceLaws.{corner-placed}
-use Rattle.plan.proofs.FilletLegLaws.{Carried, carried-start, carried-next, corner-refused, last-answer}
-use native.Mathlib.Omega.{arith}
+use Rattle.plan.proofs.FilletLegLaws.{Carried}
 use Rattle.plan.proofs.turns_and_legs.Given as goal
 
 abbrev pub invariant-loop-i : goal.invariant-loop-i

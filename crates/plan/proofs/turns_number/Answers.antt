@@ -2,7 +2,6 @@
 use mathlib.Core.Path.{◌∙◌}
 use native.Mathlib.Omega.{arith}
 use Prim.Native.Nat.{◌+◌}
-use borrow.Author.Rules.{rules}
 use Rattle.plan.specs.Rules.{tangent_number}
 use Rattle.plan.proofs.TangentNumberLaws.{easy-passes}
 use Rattle.plan.proofs.turns_number.Goals as goal

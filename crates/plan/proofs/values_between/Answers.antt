@@ -3,14 +3,11 @@
 use mir.Syntax.{w32}
 use mir.Val.{to_z, of_z}
 use mathlib.Core.Path.{◌≡◌, refl, sym, ◌∙◌, ap}
-use mathlib.Core.Logic.{inl, inr}
-use mathlib.Core.Bool.{Bool, true, false, not}
-use mathlib.Core.List.{List}
-use Prim.Native.Nat.{ℕ, ◌-◌, ◌≤◌}
-use lib.IntN.{ℤ}
+use mathlib.Core.Bool.{true, false}
+use Prim.Native.Nat.{◌-◌}
 use Rattle.conditions.proofs.Bools.{both-on}
 use Rattle.refusals.specs.Sweep.{every}
-use Rattle.refusals.proofs.SweepLaws.{passing, passing-all}
+use Rattle.refusals.proofs.SweepLaws.{passing-all}
 use Rattle.plan.specs.Limits.{signed_between}
 use Rattle.plan.specs.Places.{number_at}
 use Rattle.plan.proofs.SweptLaws.{counted_next}

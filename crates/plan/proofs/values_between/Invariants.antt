@@ -1,20 +1,13 @@
 -- What the loops of `values_between` keep, and what falls with each round. Assumes nothing.
-use mir.Syntax.{w32}
-use mir.Val.{to_z, of_z}
-use mathlib.Core.Path.{◌≡◌, refl, sym, ◌∙◌, ap}
-use mathlib.Core.Logic.{inl, inr}
-use mathlib.Core.Bool.{Bool, true, false, not}
+use mathlib.Core.Path.{◌≡◌}
+use mathlib.Core.Bool.{Bool}
 use mathlib.Core.List.{List}
 use Prim.Native.Nat.{ℕ, ◌-◌, ◌≤◌}
 use lib.IntN.{ℤ}
-use Rattle.conditions.proofs.Bools.{both-on}
 use Rattle.refusals.specs.Sweep.{every}
-use Rattle.refusals.proofs.SweepLaws.{passing, passing-all}
+use Rattle.refusals.proofs.SweepLaws.{passing}
 use Rattle.plan.specs.Limits.{signed_between}
 use Rattle.plan.specs.Places.{number_at}
-use Rattle.plan.proofs.SweptLaws.{counted_next}
-use borrow.Author.Rules.{rules}
-use native.Mathlib.Omega.{arith}
 use Rattle.plan.proofs.values_between.Given as goal
 
 abbrev pub fits : List ℤ → ℕ → ℕ → ℕ → Bool

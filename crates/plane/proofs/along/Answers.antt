@@ -1,6 +1,5 @@
 -- `along` gives d·D(k). Assumes nothing.
 use mathlib.Core.Path.{ap, ◌∙◌}
-use borrow.Author.Rules.{rules}
 use Rattle.integers.proofs.BoundLaws.{passed_on}
 use Rattle.plane.specs.Level.{dot_of}
 use Rattle.plane.proofs.along.Goals as goal

@@ -4,7 +4,6 @@ use Prim.Native.Nat.{ℕ, ◌+◌}
 use lib.IntN.{ℤ}
 use mir.Syntax.{w64}
 use mir.Val.{to_z, of_z}
-use borrow.Author.Rules.{rules}
 use Rattle.integers.proofs.BoundLaws.{bound, kept}
 use Rattle.plane.specs.declared.Leg.{Leg}
 use Rattle.plane.specs.Area.{IsLeg}

@@ -1,17 +1,15 @@
 -- `half_plane` decides x/√A + y/√B ≥ 0 by the signs of x and y and one comparison of products. Assumes nothing.
 use mathlib.Core.Path.{◌≡◌, sym, ap, ◌∙◌}
 use mathlib.Core.Bool.{Bool, true, false}
-use Prim.Native.Nat.{ℕ, ◌*◌, ◌≤◌, ◌<◌}
+use Prim.Native.Nat.{ℕ, ◌*◌, ◌<◌}
 use native.Mathlib.Omega.{arith}
 use lib.Dec.{leb}
 use lib.IntN.{ℤ, pos, nat_abs}
 use lib.Signed.{le_z}
 use mir.Syntax.{w64}
 use mir.Val.{to_z, of_z}
-use borrow.Author.Rules.{rules}
 use Rattle.integers.specs.Wide.{base}
 use Rattle.integers.proofs.BoundLaws.{kept}
-use Rattle.plane.specs.Half.{half_plane}
 use Rattle.plane.proofs.HalfLaws.{hand-halves, both-met, none-met, x-negative, y-negative}
 use Rattle.plane.proofs.half_plane.Goals as goal
 use Rattle.plane.proofs.half_plane.Goals.{After-magnitude-v}

@@ -1,8 +1,7 @@
 -- `leg_between` gives the leg, within a leg's bounds. Assumes nothing.
-use mathlib.Core.Path.{sym, subst}
 use Rattle.integers.proofs.BoundLaws.{overflow}
 use Rattle.integers.proofs.ValueLaws.{value, is}
-use Rattle.plane.specs.Area.{IsLeg, leg_of}
+use Rattle.plane.specs.Area.{leg_of}
 use Rattle.plane.proofs.LegLaws.{leg, leg-is, leg-carried}
 use Rattle.plane.proofs.leg_between.Goals as goal
 

@@ -1,7 +1,6 @@
 -- `length` gives the root of v·v. Assumes nothing.
 use mathlib.Core.Path.{◌≡◌, ap, ◌∙◌}
 use native.Mathlib.Omega.{arith}
-use borrow.Author.Rules.{rules}
 use Rattle.integers.specs.Root.{root_of}
 use Rattle.plane.specs.Level.{vector_length}
 use Rattle.plane.proofs.LevelLaws.{length-le}

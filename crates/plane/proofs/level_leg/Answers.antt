@@ -1,6 +1,5 @@
 -- `level_leg` gives the leg in north and east. Assumes nothing.
-use mathlib.Core.Path.{◌≡◌, ◌∙◌}
-use borrow.Author.Rules.{rules}
+use mathlib.Core.Path.{◌∙◌}
 use Rattle.course.proofs.VectorLaws.{carried}
 use Rattle.plane.specs.Level.{minus, level_leg_of}
 use Rattle.plane.proofs.LevelLaws.{level-leg-near}

@@ -1,10 +1,8 @@
 -- `met` decides the half-plane of a corner. Assumes nothing.
-use mathlib.Core.Path.{◌≡◌, ap, ◌∙◌}
+use mathlib.Core.Path.{◌∙◌}
 use mir.Syntax.{w64}
-use mir.Val.{to_z, of_z}
-use borrow.Author.Rules.{rules}
-use Rattle.integers.proofs.BoundLaws.{bound, kept}
-use Rattle.plane.specs.Half.{half_plane, met_of, dot3_of}
+use Rattle.integers.proofs.BoundLaws.{kept}
+use Rattle.plane.specs.Half.{half_plane, met_of}
 use Rattle.plane.proofs.met.Goals as goal
 
 pub returns : goal.returns

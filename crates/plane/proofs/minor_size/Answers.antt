@@ -2,7 +2,6 @@
 use mathlib.Core.Path.{◌≡◌, ◌∙◌}
 use native.Mathlib.Omega.{arith}
 use lib.IntN.{◌*ℤ◌}
-use borrow.Author.Rules.{rules}
 use Rattle.integers.proofs.BoundLaws.{overflow, within-mul, within-less}
 use Rattle.integers.proofs.ValueLaws.{sized}
 use Rattle.plane.specs.Half.{minor_size}

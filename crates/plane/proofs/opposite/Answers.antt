@@ -6,7 +6,6 @@ use lib.Dec.{eqb}
 use lib.IntN.{ℤ, pos}
 use lib.Signed.{lt_z}
 use mir.Syntax.{w64}
-use borrow.Author.Rules.{rules}
 use Rattle.integers.proofs.BoundLaws.{kept}
 use Rattle.plane.specs.Half.{cross_size, dot3_of, opposite_of}
 use Rattle.plane.proofs.opposite.Goals as goal

@@ -3,8 +3,6 @@ use mathlib.Core.Path.{◌≡◌, sym, ◌∙◌}
 use Prim.Native.Nat.{◌+◌, ◌-◌, ◌%◌}
 use native.Mathlib.Omega.{arith}
 use lib.IntN.{pos, ◌+ℤ◌, ◌-ℤ◌}
-use borrow.Author.Rules.{rules}
-use Rattle.conditions.specs.Choose.{choose}
 use Rattle.conditions.proofs.ChooseLaws.{choose-true, choose-false}
 use Rattle.integers.specs.Wrap.{wrap_of}
 use Rattle.integers.proofs.WrapLaws.{wrap-add, wrap-sub}

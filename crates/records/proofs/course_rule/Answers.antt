@@ -1,6 +1,5 @@
 -- `course_rule` takes a course that is in range and follows a point. Assumes nothing.
 use native.Mathlib.Omega.{arith}
-use borrow.Author.Rules.{rules}
 use Rattle.records.proofs.RuleLaws.{course-taken, course-alone, course-range}
 use Rattle.records.proofs.course_rule.Goals as goal
 

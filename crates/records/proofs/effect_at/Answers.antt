@@ -1,7 +1,6 @@
 -- `effect_at` judges the record at an offset: cut short, or whole. Assumes nothing.
 use mathlib.Core.Path.{sym, ◌∙◌}
 use native.Mathlib.Omega.{arith}
-use borrow.Author.Rules.{rules}
 use Rattle.records.proofs.StepLaws.{Whole, whole, cut-past, effect-cut, effect-whole}
 use Rattle.records.proofs.effect_at.Goals as goal
 use Rattle.records.proofs.effect_at.Goals.{Else-to-eq0}

@@ -1,6 +1,5 @@
 -- `effect_of` finds the kind's row and goes by whether the reader knows the kind. Assumes nothing.
 use mathlib.Core.Path.{sym, ◌∙◌}
-use borrow.Author.Rules.{rules}
 use Rattle.records.proofs.RuleLaws.{judge-known, judge-unknown}
 use Rattle.records.proofs.effect_of.Goals as goal
 

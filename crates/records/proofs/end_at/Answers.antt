@@ -2,7 +2,6 @@
 use mathlib.Core.Path.{sym}
 use Prim.Native.Nat.{◌+◌}
 use native.Mathlib.Omega.{arith}
-use borrow.Author.Rules.{rules}
 use Rattle.records.proofs.StepLaws.{head-cut, body-cut, not-cut}
 use Rattle.records.proofs.end_at.Goals as goal
 

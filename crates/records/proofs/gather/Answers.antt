@@ -1,14 +1,12 @@
 -- `gather` walks over the records. The loop's invariant: the tally and the numbers are what some parts give, and what is left to gather from the
 -- offset on, after those parts, is what the whole walk gives. The measure is what is left of the file. Assumes nothing.
 use mathlib.Core.Path.{◌≡◌, refl, sym, ap, ◌∙◌}
-use Prim.Native.Nat.{◌-◌}
 use lib.ListN.{length}
-use borrow.Author.Rules.{rules}
 use Rattle.refusals.proofs.OutcomeLaws.{never-good}
 use Rattle.plan.specs.Places.{plan_numbers}
 use Rattle.records.specs.Kinds.{no_parts}
 use Rattle.records.proofs.HeldLaws.{same_count, same-given, numbers-length}
-use Rattle.records.proofs.StepLaws.{Gathers, Turn, takes-nothing, takes-point, takes-radius, takes-course, further, again, all-wrong, all_new, refused-shown, all-gathered, all-stored}
+use Rattle.records.proofs.StepLaws.{Turn, takes-nothing, takes-point, takes-radius, takes-course, further, again, all-wrong, all_new, refused-shown, all-gathered, all-stored}
 use Rattle.records.proofs.FactLaws.{record-facts}
 use Rattle.records.proofs.gather.Goals as goal
 use Rattle.records.proofs.gather.Goals.{After-effect_at-effect, At-loop-at}

@@ -1,6 +1,5 @@
 -- `i32_at` reads four bytes and their sign. Assumes nothing.
 use mathlib.Core.Path.{ap, ◌∙◌}
-use borrow.Author.Rules.{rules}
 use Rattle.integers.specs.TwosComplement.{signed_of}
 use Rattle.integers.proofs.TwosComplementLaws.{signed-unsigned}
 use Rattle.records.specs.Numbers.{i32_at}

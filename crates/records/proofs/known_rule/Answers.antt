@@ -1,6 +1,5 @@
 -- `known_rule` compares the row's version with the file's, and its lengths with the body's, before the rule on the value. Assumes nothing.
 use mathlib.Core.Path.{sym, ◌∙◌}
-use borrow.Author.Rules.{rules}
 use Rattle.records.proofs.RuleLaws.{known-taken, known-length, known-newer}
 use Rattle.records.proofs.known_rule.Goals as goal
 

@@ -1,6 +1,5 @@
 -- `knows` compares the version of the kind's row with the reader's. Assumes nothing.
 use mathlib.Core.Path.{sym}
-use borrow.Author.Rules.{rules}
 use Rattle.records.proofs.KindLaws.{knows-none, knows-by}
 use Rattle.records.proofs.knows.Goals as goal
 

@@ -1,7 +1,5 @@
 -- `optional_rule` takes notes, and speeds in their range, and changes nothing. Assumes nothing.
 use mathlib.Core.Path.{sym, ◌∙◌}
-use borrow.Author.Tests.{not-true, not-false}
-use borrow.Author.Rules.{rules}
 use Rattle.records.proofs.RuleLaws.{speed-range, speed-taken, note-taken}
 use Rattle.records.proofs.optional_rule.Goals as goal
 

@@ -1,5 +1,4 @@
 -- `point_in` reads the three numbers of a point. Assumes nothing.
-use borrow.Author.Rules.{rules}
 use Rattle.records.proofs.NumberLaws.{point-read}
 use Rattle.records.proofs.point_in.Goals as goal
 

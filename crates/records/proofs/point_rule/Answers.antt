@@ -1,6 +1,5 @@
 -- `point_rule` takes a point of the area. Assumes nothing.
 use mathlib.Core.Path.{sym, ◌∙◌}
-use borrow.Author.Rules.{rules}
 use Rattle.records.proofs.RuleLaws.{point-taken, point-out}
 use Rattle.records.proofs.point_rule.Goals as goal
 

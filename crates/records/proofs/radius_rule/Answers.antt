@@ -1,6 +1,5 @@
 -- `radius_rule` takes a radius that is in range, the first, and before all points; each test that fails is wrong. Assumes nothing.
 use mathlib.Core.Path.{sym, ◌∙◌}
-use borrow.Author.Rules.{rules}
 use Rattle.records.proofs.RuleLaws.{radius-taken, radius-late, radius-twice, radius-range}
 use Rattle.records.proofs.radius_rule.Goals as goal
 

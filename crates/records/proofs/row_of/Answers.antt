@@ -1,10 +1,7 @@
 -- `row_of` finds the row of a kind. The constant's list is the definition's table by computing. The loop's invariant: the rows from i on give the
 -- row that the whole table gives. Assumes nothing.
-use mathlib.Core.Path.{◌≡◌, refl, sym, ◌∙◌}
-use Prim.Native.Nat.{◌-◌}
-use lib.ListN.{drop}
-use borrow.Author.Rules.{rules}
-use Rattle.records.specs.Kinds.{table, row_in, row_of}
+use mathlib.Core.Path.{refl, sym, ◌∙◌}
+use Rattle.records.specs.Kinds.{table, row_of}
 use Rattle.records.proofs.KindLaws.{row-past, row-hit, row_next}
 use Rattle.records.proofs.row_of.Goals as goal
 

@@ -1,10 +1,8 @@
 -- What the loops of `row_of` keep, and what falls with each round. Assumes nothing.
-use mathlib.Core.Path.{◌≡◌, refl, sym, ◌∙◌}
+use mathlib.Core.Path.{◌≡◌}
 use Prim.Native.Nat.{◌-◌}
 use lib.ListN.{drop}
-use borrow.Author.Rules.{rules}
 use Rattle.records.specs.Kinds.{table, row_in, row_of}
-use Rattle.records.proofs.KindLaws.{row-past, row-hit, row_next}
 use Rattle.records.proofs.row_of.Given as goal
 
 abbrev pub invariant-loop-i : goal.invariant-loop-i

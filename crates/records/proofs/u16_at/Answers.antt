@@ -1,6 +1,5 @@
 -- `u16_at` reads two bytes. Past the end there is nothing to read, so that i + 1 is counted within the slice's length. Assumes nothing.
 use mathlib.Core.Path.{sym}
-use borrow.Author.Rules.{rules}
 use Rattle.records.specs.Numbers.{u16_at}
 use Rattle.records.proofs.NumberLaws.{u16-past}
 use Rattle.records.proofs.u16_at.Goals as goal

@@ -1,6 +1,5 @@
 -- `u32_at` reads two pairs of bytes. Assumes nothing.
 use mathlib.Core.Path.{sym}
-use borrow.Author.Rules.{rules}
 use Rattle.records.specs.Numbers.{u32_at}
 use Rattle.records.proofs.NumberLaws.{u32-past}
 use Rattle.records.proofs.u32_at.Goals as goal

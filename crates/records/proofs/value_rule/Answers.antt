@@ -1,6 +1,5 @@
 -- `value_rule` goes by the kind to its rule. Assumes nothing.
 use mathlib.Core.Path.{◌∙◌}
-use borrow.Author.Rules.{rules}
 use Rattle.records.proofs.RuleLaws.{by-optional, by-point, by-radius, by-course}
 use Rattle.records.proofs.value_rule.Goals as goal
 

@@ -1,5 +1,4 @@
 -- `with_course` counts one course more. Assumes nothing.
-use borrow.Author.Rules.{rules}
 use Rattle.records.proofs.HeldLaws.{course-tallied}
 use Rattle.records.proofs.with_course.Goals as goal
 

@@ -1,5 +1,4 @@
 -- `with_point` counts one point more. Assumes nothing.
-use borrow.Author.Rules.{rules}
 use Rattle.records.proofs.HeldLaws.{point-tallied}
 use Rattle.records.proofs.with_point.Goals as goal
 

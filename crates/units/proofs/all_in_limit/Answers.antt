@@ -1,7 +1,6 @@
 -- `all_in_limit` is whether each part of a fix is in its limit; the first that is not decides. Assumes nothing.
 use mathlib.Core.Path.{sym, ◌∙◌}
 use mathlib.Core.Bool.{◌&&◌}
-use borrow.Author.Rules.{rules}
 use Rattle.units.specs.Decimetres.{in_limit}
 use Rattle.units.specs.Position.{all_in_limit}
 use Rattle.units.proofs.all_in_limit.Goals as goal

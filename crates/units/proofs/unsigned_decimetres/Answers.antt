@@ -2,7 +2,6 @@
 use mathlib.Core.Path.{sym}
 use Prim.Native.Nat.{◌≤◌}
 use native.Mathlib.Omega.{arith}
-use borrow.Author.Rules.{rules}
 use Rattle.units.specs.Pattern.{field_of}
 use Rattle.units.proofs.PatternLaws.{decimetres-small, decimetres-large, one-is, one-le, one-pos}
 use Rattle.units.proofs.unsigned_decimetres.Goals as goal

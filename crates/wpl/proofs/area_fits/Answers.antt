@@ -1,6 +1,5 @@
 -- `area_fits` compares the area length with the bytes after the header, then with its limit. Assumes nothing.
 use mathlib.Core.Path.{sym}
-use borrow.Author.Rules.{rules}
 use Rattle.wpl.specs.Header.{area_of}
 use Rattle.wpl.proofs.LoadLaws.{area-equal, area-other}
 use Rattle.wpl.proofs.area_fits.Goals as goal

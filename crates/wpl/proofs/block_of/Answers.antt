@@ -1,7 +1,6 @@
 -- `block_of` copies a block. Assumes nothing.
 use mathlib.Core.Path.{refl}
 use Rattle.wpl.proofs.LoadLaws.{block-copied}
-use borrow.Author.Rules.{rules}
 use Rattle.wpl.proofs.block_of.Goals as goal
 
 pub returns : goal.returns

@@ -1,6 +1,5 @@
 -- `carried_since` gives each mode's version. Assumes nothing.
 use mathlib.Core.Path.{sym, ap}
-use borrow.Author.Rules.{rules}
 use Rattle.wpl.specs.Write.{carried_since}
 use Rattle.wpl.proofs.carried_since.Goals as goal
 

@@ -1,15 +1,11 @@
 -- `count_notes` walks over the records. The loop's invariant: what is counted and the notes from here on are those of the file. The measure is what
 -- is left of the file. Assumes nothing.
-use mathlib.Core.Path.{◌≡◌, sym, ◌∙◌}
-use Prim.Native.Nat.{◌+◌, ◌-◌}
+use mathlib.Core.Path.{sym, ◌∙◌}
 use native.Mathlib.Omega.{arith}
-use lib.ListN.{length, drop, length-drop}
-use borrow.Author.Rules.{rules}
-use Rattle.records.specs.Walk.{walk}
+use lib.ListN.{drop, length-drop}
 use Rattle.records.specs.Gather.{header_length}
 use Rattle.records.proofs.StepLaws.{whole, cut-past}
 use Rattle.wpl.specs.Load.{records_of}
-use Rattle.wpl.specs.Note.{notes_in}
 use Rattle.wpl.proofs.CountLaws.{count-end, count_cut, count_next, most-in}
 use Rattle.wpl.proofs.count_notes.Goals as goal
 

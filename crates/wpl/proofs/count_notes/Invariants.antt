@@ -1,15 +1,10 @@
 -- What the loops of `count_notes` keep, and what falls with each round. Assumes nothing.
-use mathlib.Core.Path.{◌≡◌, sym, ◌∙◌}
+use mathlib.Core.Path.{◌≡◌}
 use Prim.Native.Nat.{◌+◌, ◌-◌}
-use native.Mathlib.Omega.{arith}
-use lib.ListN.{length, drop, length-drop}
-use borrow.Author.Rules.{rules}
+use lib.ListN.{length, drop}
 use Rattle.records.specs.Walk.{walk}
 use Rattle.records.specs.Gather.{header_length}
-use Rattle.records.proofs.StepLaws.{whole, cut-past}
-use Rattle.wpl.specs.Load.{records_of}
 use Rattle.wpl.specs.Note.{notes_in}
-use Rattle.wpl.proofs.CountLaws.{count-end, count_cut, count_next, most-in}
 use Rattle.wpl.proofs.count_notes.Given as goal
 
 abbrev pub invariant-loop-at : goal.invariant-loop-at

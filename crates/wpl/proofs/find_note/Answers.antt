@@ -1,10 +1,9 @@
 -- `find_note` walks over the records. The loop's invariant: the note that is looked for from here is the one that was asked for. The measure is
 -- what is left of the file. Assumes nothing.
-use mathlib.Core.Path.{◌≡◌, refl, sym, ap, ◌∙◌}
-use Prim.Native.Nat.{ℕ, ◌-◌}
+use mathlib.Core.Path.{refl, sym, ap, ◌∙◌}
+use Prim.Native.Nat.{ℕ}
 use native.Mathlib.Omega.{arith}
-use lib.ListN.{length, drop}
-use borrow.Author.Rules.{rules}
+use lib.ListN.{drop}
 use Rattle.records.specs.Walk.{walk}
 use Rattle.records.proofs.StepLaws.{whole, cut-past}
 use Rattle.wpl.specs.Load.{records_of}

@@ -1,14 +1,10 @@
 -- What the loops of `find_note` keep, and what falls with each round. Assumes nothing.
-use mathlib.Core.Path.{◌≡◌, refl, sym, ap, ◌∙◌}
-use Prim.Native.Nat.{ℕ, ◌-◌}
-use native.Mathlib.Omega.{arith}
+use mathlib.Core.Path.{◌≡◌}
+use Prim.Native.Nat.{◌-◌}
 use lib.ListN.{length, drop}
-use borrow.Author.Rules.{rules}
 use Rattle.records.specs.Walk.{walk}
-use Rattle.records.proofs.StepLaws.{whole, cut-past}
 use Rattle.wpl.specs.Load.{records_of}
 use Rattle.wpl.specs.Note.{note_in}
-use Rattle.wpl.proofs.NoteLaws.{note-end, note-cut, note-found, note-next}
 use Rattle.wpl.proofs.find_note.Given as goal
 
 abbrev pub invariant-loop-at : goal.invariant-loop-at

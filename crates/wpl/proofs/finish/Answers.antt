@@ -1,6 +1,5 @@
 -- `finish` asks the plan's rules of the plan in its numbers. Assumes nothing.
 use mathlib.Core.Path.{◌≡◌, sym, ap, ◌∙◌}
-use native.Mathlib.Omega.{arith}
 use lib.ListN.{length}
 use Rattle.refusals.specs.Outcome.{Outcome}
 use Rattle.plan.specs.Places.{plan_numbers}

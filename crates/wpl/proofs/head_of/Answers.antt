@@ -1,6 +1,5 @@
 -- `head_of` puts the mode of the radius and of the given courses beside them. Assumes nothing.
 use mathlib.Core.Path.{ap}
-use borrow.Author.Rules.{rules}
 use Rattle.plan.specs.declared.Mode.{Mode}
 use Rattle.wpl.proofs.head_of.Goals as goal
 

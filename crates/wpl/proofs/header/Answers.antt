@@ -1,8 +1,6 @@
 -- `header` asks 1 to 5 in their order. Assumes nothing.
 use mathlib.Core.Path.{sym, ap, ◌∙◌}
 use native.Mathlib.Omega.{arith}
-use borrow.Author.Tests.{not-true, not-false}
-use borrow.Author.Rules.{rules}
 use Rattle.refusals.specs.Outcome.{refusal_of}
 use Rattle.wpl.specs.Header.{version_of, serial_of}
 use Rattle.wpl.proofs.LoadLaws.{too_short, unmarked, unversioned, unnumbered, misfit, passes}

@@ -2,7 +2,6 @@
 use mathlib.Core.Path.{sym, ◌∙◌}
 use native.Mathlib.Omega.{arith}
 use borrow.Author.Tests.{eq-eqb, ne_eqb}
-use borrow.Author.Rules.{rules}
 use Rattle.conditions.proofs.ChooseLaws.{choose-true, choose-false}
 use Rattle.wpl.specs.Note.{left_of}
 use Rattle.wpl.proofs.left_after.Goals as goal

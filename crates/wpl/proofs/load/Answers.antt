@@ -2,7 +2,6 @@
 use mathlib.Core.Path.{refl}
 use Rattle.wpl.proofs.LoadLaws.{loaded-filled, loaded-whole}
 use Rattle.wpl.proofs.OrderLaws.{in_order}
-use borrow.Author.Rules.{rules}
 use Rattle.wpl.proofs.load.Goals as goal
 
 pub returns : goal.returns

@@ -6,7 +6,6 @@ use Rattle.plan.specs.Places.{plan_numbers}
 use Rattle.plan.proofs.BlockLaws.{loaded-none}
 use Rattle.wpl.proofs.LoadLaws.{cleared, entered-good}
 use Rattle.wpl.proofs.StartLaws.{starts}
-use borrow.Author.Rules.{rules}
 use Rattle.wpl.proofs.load_into.Goals as goal
 
 pub read_into-entered-requires : goal.read_into-entered-requires

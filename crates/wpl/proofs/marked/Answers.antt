@@ -1,7 +1,6 @@
 -- `marked` compares three bytes. Assumes nothing.
 use mathlib.Core.Path.{sym, ◌∙◌}
 use borrow.Author.Tests.{eq-eqb, ne_eqb}
-use borrow.Author.Rules.{rules}
 use Rattle.conditions.proofs.Bools.{both-on, both-off}
 use Rattle.wpl.specs.Header.{marked_of}
 use Rattle.wpl.proofs.marked.Goals as goal

@@ -1,6 +1,5 @@
 -- `note` gives no bytes of a file that is refused, and else the part that was found. Assumes nothing.
 use mathlib.Core.Path.{sym, ◌∙◌}
-use borrow.Author.Rules.{rules}
 use Rattle.wpl.proofs.NoteLaws.{note-refused, note-loaded, part_at, part-nothing, span-bounds}
 use Rattle.wpl.proofs.note.Goals as goal
 

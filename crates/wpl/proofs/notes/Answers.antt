@@ -1,6 +1,5 @@
 -- `notes` counts nothing in a file that is refused. Assumes nothing.
 use mathlib.Core.Path.{sym, ◌∙◌}
-use borrow.Author.Rules.{rules}
 use Rattle.wpl.proofs.CountLaws.{numbered, count-refused, count-loaded}
 use Rattle.wpl.proofs.notes.Goals as goal
 

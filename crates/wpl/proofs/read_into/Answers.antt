@@ -5,9 +5,6 @@ use native.Mathlib.Omega.{arith}
 use Rattle.wpl.specs.Header.{version_of, serial_of}
 use Rattle.wpl.specs.Load.{finish_of, loaded_of, entered_of}
 use Rattle.wpl.proofs.LoadLaws.{reader-low, reader-high, header-stops, records-stop, records-give, gather-stops, gather-gives, value-refused, numbers-refused, value-finished, numbers-finished}
-use borrow.Author.Rules.{rules}
-use Rattle.records.proofs.u16_at.Reads as u16-at-reads
-use Rattle.records.proofs.u32_at.Reads as u32-at-reads
 use Rattle.wpl.proofs.read_into.Goals as goal
 
 pub returns-then-reader-lt1 : goal.returns-then-reader-lt1

@@ -1,7 +1,6 @@
 -- `refusal` gives the number and the place of a load. Assumes nothing.
 use mathlib.Core.Path.{ap}
 use Rattle.wpl.specs.declared.Entered.{Entered}
-use borrow.Author.Rules.{rules}
 use Rattle.wpl.proofs.refusal.Goals as goal
 
 pub returns : goal.returns

@@ -1,5 +1,4 @@
 -- `write` lends the numbers of the state to `write_from`. Assumes nothing.
-use borrow.Author.Rules.{rules}
 use Rattle.wpl.proofs.OrderLaws.{in_order}
 use Rattle.wpl.proofs.write.Goals as goal
 

@@ -3,7 +3,6 @@ use mathlib.Core.Path.{sym, ap, ◌∙◌}
 use mathlib.Core.List.{List}
 use Prim.Native.Nat.{ℕ}
 use native.Mathlib.Omega.{arith}
-use borrow.Author.Rules.{rules}
 use Rattle.refusals.specs.Outcome.{Outcome}
 use Rattle.plan.proofs.PlannedLaws.{filled-long}
 use Rattle.wpl.specs.Write.{written_of, buffer_of}

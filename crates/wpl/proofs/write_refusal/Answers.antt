@@ -1,8 +1,6 @@
 -- `write_refusal` asks 14, 3, 7 and 16 in their order. Assumes nothing.
 use mathlib.Core.Path.{sym, ap, ◌∙◌}
 use native.Mathlib.Omega.{arith}
-use borrow.Author.Tests.{not-true, not-false}
-use borrow.Author.Rules.{rules}
 use Rattle.refusals.specs.Outcome.{refusal_of}
 use Rattle.wpl.proofs.WriteLaws.{not_valid, version_low, version-high, not_carried, no_room_lem, write-passes, count_most}
 use Rattle.wpl.proofs.write_refusal.Goals as goal

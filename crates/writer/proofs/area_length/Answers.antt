@@ -1,5 +1,4 @@
 -- `area_length` sums the lengths of the records. Assumes nothing.
-use borrow.Author.Rules.{rules}
 use native.Mathlib.Omega.{arith}
 use Rattle.plan.specs.Places.{seen}
 use Rattle.plan.proofs.LoadedLaws.{given-le}

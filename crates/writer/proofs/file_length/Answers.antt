@@ -1,6 +1,5 @@
 -- `file_length` gives the length of header and records. Assumes nothing.
 use native.Mathlib.Omega.{arith}
-use borrow.Author.Rules.{rules}
 use Rattle.plan.specs.Places.{seen}
 use Rattle.writer.proofs.PieceLaws.{file-length-is}
 use Rattle.writer.proofs.file_length.Goals as goal

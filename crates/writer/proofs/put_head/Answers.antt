@@ -1,7 +1,6 @@
 -- `put_head` writes two bytes. Assumes nothing.
 use native.Mathlib.Omega.{arith}
 use lib.ListN.{length-set}
-use borrow.Author.Rules.{rules}
 use Rattle.buffers.proofs.SpliceLaws.{stored}
 use Rattle.writer.proofs.put_head.Goals as goal
 

@@ -1,7 +1,6 @@
 -- `put_header` writes the mark and three numbers. Assumes nothing.
 use mathlib.Core.Path.{refl}
 use mathlib.Core.List.{◌++◌}
-use borrow.Author.Rules.{rules}
 use Rattle.records.specs.Numbers.{u16_bytes, u32_bytes}
 use Rattle.writer.specs.Pieces.{mark, header_bytes}
 use Rattle.buffers.proofs.SpliceLaws.{joined}

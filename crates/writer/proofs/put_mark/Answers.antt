@@ -2,7 +2,6 @@
 use native.Mathlib.Omega.{arith}
 use lib.ListN.{length-set}
 use lib.Seq.{sets-eq}
-use borrow.Author.Rules.{rules}
 use Rattle.writer.specs.Pieces.{mark}
 use Rattle.writer.proofs.put_mark.Goals as goal
 

@@ -3,7 +3,6 @@ use mathlib.Core.Path.{ap, ◌∙◌}
 use Prim.Native.Nat.{◌+◌}
 use native.Mathlib.Omega.{arith}
 use lib.ListN.{length-append}
-use borrow.Author.Rules.{rules}
 use Rattle.records.specs.Numbers.{u16_bytes}
 use Rattle.records.specs.Kinds.{point_bytes}
 use Rattle.buffers.specs.Splice.{splice}

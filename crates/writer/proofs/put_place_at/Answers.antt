@@ -1,6 +1,5 @@
 -- `put_place_at` writes the point at a place and its course. Assumes nothing.
 use mathlib.Core.Path.{◌∙◌}
-use borrow.Author.Rules.{rules}
 use Prim.Native.Nat.{◌+◌}
 use lib.ListN.{length}
 use Rattle.buffers.specs.Splice.{splice}

@@ -1,10 +1,9 @@
 -- `put_places` writes the records of all points. The loop's invariant: what is left, written from the offset reached, gives what the whole
 -- gives. The measure is what is left of the count. Assumes nothing.
-use Prim.Native.Nat.{◌-◌}
 use borrow.Author.Rules.{rules}
 use Rattle.plan.specs.declared.Plan.{Plan}
 use Rattle.plan.specs.Places.{seen}
-use Rattle.writer.proofs.PlaceLaws.{Underway, reads_at, starts, ends, fits, goes_on}
+use Rattle.writer.proofs.PlaceLaws.{reads_at, starts, ends, fits, goes_on}
 use Rattle.writer.proofs.put_places.Goals as goal
 use Rattle.writer.proofs.put_places.Goals.{Start}
 

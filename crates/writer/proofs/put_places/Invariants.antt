@@ -1,9 +1,7 @@
 -- What the loops of `put_places` keep, and what falls with each round. Assumes nothing.
 use Prim.Native.Nat.{◌-◌}
-use borrow.Author.Rules.{rules}
-use Rattle.plan.specs.declared.Plan.{Plan}
 use Rattle.plan.specs.Places.{seen}
-use Rattle.writer.proofs.PlaceLaws.{Underway, reads_at, starts, ends, fits, goes_on}
+use Rattle.writer.proofs.PlaceLaws.{Underway}
 use Rattle.writer.proofs.put_places.Given as goal
 
 abbrev pub invariant-loop-i : goal.invariant-loop-i

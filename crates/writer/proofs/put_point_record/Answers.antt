@@ -1,6 +1,5 @@
 -- `put_point_record` writes the head of the record of a point, and its body behind. Assumes nothing.
 use native.Mathlib.Omega.{arith}
-use borrow.Author.Rules.{rules}
 use Rattle.records.specs.Kinds.{point_bytes}
 use Rattle.records.proofs.WrittenLaws.{point-length}
 use Rattle.writer.proofs.PieceLaws.{headed}

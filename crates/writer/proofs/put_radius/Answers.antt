@@ -2,7 +2,6 @@
 use mathlib.Core.Path.{sym, ap, ◌∙◌}
 use native.Mathlib.Omega.{arith}
 use lib.ListN.{length}
-use borrow.Author.Rules.{rules}
 use Rattle.buffers.proofs.SpliceLaws.{unchanged}
 use Rattle.writer.proofs.PieceLaws.{no-radius, some-radius, value-record}
 use Rattle.writer.proofs.put_radius.Goals as goal

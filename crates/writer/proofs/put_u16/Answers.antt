@@ -1,7 +1,6 @@
 -- `put_u16` writes two bytes. Assumes nothing.
 use lib.Seq.{sets-eq}
 use Rattle.records.specs.Numbers.{u16_bytes}
-use borrow.Author.Rules.{rules}
 use Rattle.writer.proofs.put_u16.Goals as goal
 
 pub returns : goal.returns

@@ -3,7 +3,6 @@ use mathlib.Core.Path.{refl}
 use Prim.Native.Nat.{◌/◌, ◌%◌}
 use Rattle.records.specs.Numbers.{u16_bytes, u32_bytes}
 use Rattle.buffers.proofs.SpliceLaws.{joined}
-use borrow.Author.Rules.{rules}
 use Rattle.writer.proofs.put_u32.Goals as goal
 
 pub returns : goal.returns

@@ -1,6 +1,5 @@
 -- `put_value_record` writes the head of the record of a value, and its body behind. Assumes nothing.
 use native.Mathlib.Omega.{arith}
-use borrow.Author.Rules.{rules}
 use Rattle.records.specs.Numbers.{u16_bytes}
 use Rattle.records.proofs.WrittenLaws.{u16-length}
 use Rattle.writer.proofs.PieceLaws.{headed}
