@@ -12,8 +12,8 @@ ghost use Rattle.std.specs.Prelude.{◌≡◌, ◌≤◌, length};
 
 use wpl::Written;
 
-// How many arguments there are, the program's own name.
-const ARGUMENTS: usize = 1;
+// Where an argument would stand, behind the program's own name.
+const ARGUMENT: usize = 1;
 
 const LOAD_LETTER: u8 = 0x4C;
 
@@ -30,6 +30,9 @@ const SIZE_OFFSET: usize = 7;
 
 const FILE_OFFSET: usize = 9;
 
+// The most bytes of questions that are read.
+const MOST_QUESTIONS: usize = 65536;
+
 // The most room that is written into.
 const MOST_ROOM: usize = 8192;
 
@@ -40,24 +43,24 @@ const BLANK: u8 = 0xAA;
 const LINE_ROOM: usize = 88 + 2 * MOST_ROOM;
 
 // Each function that shows something answers whether it was written.
-fn say(text: &[u8]) -> bool {
-    console::write(text, text.len())
+fn say(rt: HostRuntime, text: &[u8]) -> bool {
+    console::write(rt, text, text.len())
 }
 
-fn show_load(file: &[u8], reader: u32) -> bool {
+fn show_load(rt: HostRuntime, file: &[u8], reader: u32) -> bool {
     let loaded = wpl::load(file, reader);
     let mut line = [0u8; LINE_ROOM];
     let end = report::put_load(loaded.refusal, loaded.place, 0, &mut line);
-    console::write(&line, end)
+    console::write(rt, &line, end)
 }
 
 // No note is as long as the most room; the test is for the prover.
-fn show_note(file: &[u8], number: u32) -> bool {
+fn show_note(rt: HostRuntime, file: &[u8], number: u32) -> bool {
     let note = wpl::note(file, number as usize);
     let mut line = [0u8; LINE_ROOM];
     if note.len() <= MOST_ROOM {
         let end = report::put_note(note, 0, &mut line);
-        return console::write(&line, end);
+        return console::write(rt, &line, end);
     }
     true
 }
@@ -70,16 +73,16 @@ fn blank() -> [u8; MOST_ROOM]
 }
 
 // The room is no longer than the most; the test is for the prover.
-fn show_written(written: Written, room: &[u8]) -> bool {
+fn show_written(rt: HostRuntime, written: Written, room: &[u8]) -> bool {
     let mut line = [0u8; LINE_ROOM];
     if room.len() <= MOST_ROOM {
         let end = report::put_written(written, room, 0, &mut line);
-        return console::write(&line, end);
+        return console::write(rt, &line, end);
     }
     true
 }
 
-fn show_write(file: &[u8], version: u32, room: usize) -> bool {
+fn show_write(rt: HostRuntime, file: &[u8], version: u32, room: usize) -> bool {
     let loaded = wpl::load(file, records::NEWEST);
     let state = loaded.state;
     let mut space = blank();
@@ -87,26 +90,26 @@ fn show_write(file: &[u8], version: u32, room: usize) -> bool {
         let whole: &mut [u8] = &mut space;
         let buffer = &mut whole[..room];
         let written = wpl::write(state, version, buffer);
-        show_written(written, buffer)
+        show_written(rt, written, buffer)
     } else {
-        say(b"room over 8192\n")
+        say(rt, b"room over 8192\n")
     }
 }
 
-fn show(letter: u8, number: u32, room: u16, file: &[u8]) -> bool {
+fn show(rt: HostRuntime, letter: u8, number: u32, room: u16, file: &[u8]) -> bool {
     if letter == LOAD_LETTER {
-        show_load(file, number)
+        show_load(rt, file, number)
     } else if letter == NOTE_LETTER {
-        show_note(file, number)
+        show_note(rt, file, number)
     } else if letter == WRITE_LETTER {
-        show_write(file, number, room as usize)
+        show_write(rt, file, number, room as usize)
     } else {
-        say(b"no such question\n")
+        say(rt, b"no such question\n")
     }
 }
 
 // All questions, up to one that is cut short.
-fn show_all(questions: &[u8])
+fn show_all(rt: HostRuntime, questions: &[u8])
     requires { length questions.now ≤ 65536 }
 {
     let mut at: usize = 0;
@@ -118,6 +121,7 @@ fn show_all(questions: &[u8])
         }
         let to = from + size;
         let written = show(
+            rt,
             questions[at],
             records::u32_at(questions, at + NUMBER_OFFSET),
             records::u16_at(questions, at + ROOM_OFFSET),
@@ -129,20 +133,20 @@ fn show_all(questions: &[u8])
         at = to;
     }
     if at < questions.len() {
-        say(b"question cut short\n");
+        say(rt, b"question cut short\n");
     }
 }
 
-fn main() {
-    if ARGUMENTS < os::arg_count() {
+fn main(rt: HostRuntime) {
+    if console::has_argument(&rt, ARGUMENT) {
         let usage = b"usage: answers < QUESTIONS\n";
-        console::complain(usage, usage.len());
+        console::complain(rt, usage, usage.len());
         return;
     }
-    let mut space = io::large_buffer();
-    let read = console::read(&mut space);
+    let mut space = [0u8; MOST_QUESTIONS];
+    let read = console::read(rt, &mut space);
     let count = read.count;
     if !read.failed {
-        show_all(&space[..count]);
+        show_all(rt, &space[..count]);
     }
 }

@@ -3,16 +3,9 @@ use mathlib.Core.Path.{◌≡◌, sym, ap, ◌∙◌}
 use mathlib.Core.List.{List, ◌++◌}
 use Prim.Native.Nat.{ℕ, ◌+◌, ◌≤◌}
 use native.Mathlib.Omega.{arith}
-use lib.ListN.{length, take, drop, length-append}
+use lib.ListN.{length, take, drop}
 use lib.Seq.{length-take-le, drop-append-add, drop-drop}
-use Rattle.io.specs.Counts.{IsPrefixLen}
 use Rattle.buffers.specs.Splice.{splice}
-
--- bytes at the front are bytes of the whole
-pub counted : (count : ℕ) (front rest : List ℕ) → count ≤ length front → IsPrefixLen count (front ++ rest)
-counted count front rest h =
-    let l : count ≤ length (front ++ rest) = rw (length-append front rest) (omega arith) in
-    (l, sym (length-take-le count (front ++ rest) l))
 
 -- what a splice leaves behind the bytes that it brings
 pub left_behind : (at count : ℕ) (new old back : List ℕ) → length new ≡ count → at ≤ length old → back ≡ splice at new old

@@ -1,11 +1,12 @@
-// The calls to the system: programs print and read with them. No contract can say what C's write does, nor which bytes its read brings; each ends
-// without a fault, and what is handed to write is the text of library functions. Trouble is one line on standard error.
+// What programs read and print with, over the system's streams and files. No contract can say what a write does there, nor which bytes a read
+// brings; each ends without a fault, and what is handed to write is the text of library functions. Trouble is one line on standard error.
 #![tactic(auto)]
 
 ghost use Rattle.std.specs.Prelude.{true, ◌≡◌, ◌+◌, ◌≤◌, ◌<◌, length, drop};
-ghost use Rattle.io.specs.Counts.{IsPrefixLen};
+ghost use Rattle.console.specs.Counts.{IsPrefixLen};
 
-use libc::{STDERR_FILENO, STDIN_FILENO, STDOUT_FILENO};
+use std::env::{Env, FillError};
+use std::io::{Error, Print, Read, Write};
 
 // How many bytes were read before the end, or before a read that failed.
 #[derive(Clone, Copy)]
@@ -14,27 +15,79 @@ pub struct Filled {
     pub failed: bool,
 }
 
-// The first bytes of a buffer, as many as it has at most. Answers whether all were written.
-fn write_to(descriptor: i32, buffer: &[u8], count: usize) -> bool {
+// The most bytes that one read brings.
+const CHUNK: usize = 4096;
+
+// Room for the system's words for an error, and for its number.
+const REASON_ROOM: usize = 256;
+
+// What std puts between those words and that number.
+const NUMBER: &str = " (os error ";
+
+// Whether the program was started with an argument at this place. Its own name is at 0.
+pub fn has_argument<E: Env>(env: &E, place: usize) -> bool {
+    match env.arg(place, &mut []) {
+        Err(FillError::NotPresent) => false,
+        Err(FillError::TooLong) => true,
+        Ok(_) => true,
+    }
+}
+
+// The first bytes of a buffer, as many as it has at most.
+fn first(buffer: &[u8], count: usize) -> &[u8] {
     if count <= buffer.len() {
-        io::write_all(descriptor, &buffer[..count])
+        &buffer[..count]
     } else {
-        io::write_all(descriptor, buffer)
+        buffer
     }
 }
 
 // On standard output. Answers whether all were written, and says it where not.
-pub fn write(buffer: &[u8], count: usize) -> bool {
-    let written = write_to(STDOUT_FILENO, buffer, count);
-    if !written {
-        os::fail(b"standard output");
+pub fn write(rt: HostRuntime, buffer: &[u8], count: usize) -> bool {
+    match Print::write_all(&rt, first(buffer, count)) {
+        Ok(()) => true,
+        Err(error) => {
+            fail(rt, b"standard output", &error);
+            false
+        }
     }
-    written
 }
 
-// On standard error.
-pub fn complain(buffer: &[u8], count: usize) {
-    write_to(STDERR_FILENO, buffer, count);
+// On standard error. Where that can't be written, nothing is left to say it on.
+pub fn complain(rt: HostRuntime, buffer: &[u8], count: usize) {
+    let _ = Print::write_all(&rt.stderr(), first(buffer, count));
+}
+
+// Puts an error's text into a room, as much as it has room for, and answers how much that is.
+fn put_text(error: &Error, room: &mut [u8]) -> usize
+    ensures { result ≤ length room.new }
+{
+    let most = room.len();
+    let mut rest = &mut room[..];
+    let _ = write!(rest, "{error}");
+    most.saturating_sub(rest.len())
+}
+
+// The words of an error's text, without its number.
+fn words(text: &[u8]) -> &[u8] {
+    match str::from_utf8(text) {
+        Ok(text) => match text.split_once(NUMBER) {
+            Some((words, _)) => words.as_bytes(),
+            None => text.as_bytes(),
+        },
+        Err(_) => text,
+    }
+}
+
+// A line on standard error: what failed, as the caller names it, and why, in the system's words.
+pub fn fail(rt: HostRuntime, name: &[u8], error: &Error) {
+    let mut room = [0u8; REASON_ROOM];
+    let end = put_text(error, &mut room);
+    let reason = words(&room[..end]);
+    complain(rt, name, name.len());
+    complain(rt, b": ", 2);
+    complain(rt, reason, reason.len());
+    complain(rt, b"\n", 1);
 }
 
 fn least(a: usize, b: usize) -> usize
@@ -47,29 +100,40 @@ fn least(a: usize, b: usize) -> usize
 }
 
 // One read of so many bytes at most. A failure is said.
-fn read_some(descriptor: i32, name: &[u8], most: usize, chunk: &mut [u8]) -> Filled
+fn read_some<R: Read>(
+    rt: HostRuntime,
+    reader: &mut R,
+    name: &[u8],
+    most: usize,
+    chunk: &mut [u8],
+) -> Filled
     ensures { IsPrefixLen result.count chunk.new × (result.count ≤ most) }
 {
     let size = least(most, chunk.len());
-    let part = &mut chunk[..size];
-    let got = libc::read(descriptor, part);
-    if got < 0 {
-        os::fail(name);
+    let got = reader.read(&mut chunk[..size]);
+    if let Err(error) = &got {
+        fail(rt, name, error);
     }
     Filled {
-        count: io::count(got, part),
-        failed: got < 0,
+        count: got.unwrap_or(0),
+        failed: got.is_err(),
     }
 }
 
-// One read behind the first bytes. It goes by way of a chunk, since no contract says what C's read leaves behind the bytes that it brings.
-fn read_behind(descriptor: i32, name: &[u8], done: usize, room: &mut [u8]) -> Filled
+// One read behind the first bytes. It goes by way of a chunk, since no contract says what a read leaves behind the bytes that it brings.
+fn read_behind<R: Read>(
+    rt: HostRuntime,
+    reader: &mut R,
+    name: &[u8],
+    done: usize,
+    room: &mut [u8],
+) -> Filled
     requires { done ≤ length room.old }
     ensures count_in_bounds { done + result.count ≤ length room.old }
     ensures room_unchanged { drop (done + result.count) room.new ≡ drop (done + result.count) room.old }
 {
-    let mut chunk = io::buffer();
-    let read = read_some(descriptor, name, room.len() - done, &mut chunk);
+    let mut chunk = [0u8; CHUNK];
+    let read = read_some(rt, reader, name, room.len() - done, &mut chunk);
     let count = read.count;
     buffers::put_bytes(&chunk[..count], &mut room[done..]);
     read
@@ -77,14 +141,14 @@ fn read_behind(descriptor: i32, name: &[u8], done: usize, room: &mut [u8]) -> Fi
 
 // Reads until the room is full, the input ends or a read fails, which is said under the input's name. Of a room only the bytes that are counted
 // change, and no full room is a failure.
-pub fn fill(descriptor: i32, name: &[u8], room: &mut [u8]) -> Filled
+pub fn fill<R: Read>(rt: HostRuntime, reader: &mut R, name: &[u8], room: &mut [u8]) -> Filled
     ensures prefix_len { IsPrefixLen result.count room.new }
     ensures room_unchanged { drop result.count room.new ≡ drop result.count room.old }
     ensures count_in_bounds { result.failed ≡ true → result.count < length room.old }
 {
     let mut done: usize = 0;
     while done < room.len() {
-        let read = read_behind(descriptor, name, done, room);
+        let read = read_behind(rt, reader, name, done, room);
         if read.count == 0 {
             return Filled {
                 count: done,
@@ -100,10 +164,10 @@ pub fn fill(descriptor: i32, name: &[u8], room: &mut [u8]) -> Filled
 }
 
 // The same of standard input.
-pub fn read(room: &mut [u8]) -> Filled
+pub fn read(rt: HostRuntime, room: &mut [u8]) -> Filled
     ensures prefix_len { IsPrefixLen result.count room.new }
     ensures room_unchanged { drop result.count room.new ≡ drop result.count room.old }
     ensures count_in_bounds { result.failed ≡ true → result.count < length room.old }
 {
-    fill(STDIN_FILENO, b"standard input", room)
+    fill(rt, &mut rt.stdin(), b"standard input", room)
 }

@@ -16,7 +16,6 @@ use course::Vector;
 use dubins::{Ends, Found};
 use fillets::Corner;
 use integers::signed;
-use libc::STDIN_FILENO;
 use manager::{Answer, Progress, State};
 use plan::{Head, Mode, Plan};
 use plane::Point;
@@ -34,42 +33,42 @@ const FIX_SIZE: usize = 17;
 
 const TO_POINTS: usize = 10;
 
-// The length of io::large_buffer.
-const LARGE_BUFFER: usize = 65536;
+// Room for the input, and for a byte more than it may have.
+const INPUT_ROOM: usize = 65536;
 
 // Room for a number, and for a refusal.
 const DIGITS: usize = 21;
 
 const REFUSAL_ROOM: usize = 52;
 
-fn write(text: &[u8]) {
-    console::write(text, text.len());
+fn write(rt: HostRuntime, text: &[u8]) {
+    console::write(rt, text, text.len());
 }
 
-fn write_decimal(n: u64) {
+fn write_decimal(rt: HostRuntime, n: u64) {
     let mut digits = [0u8; DIGITS];
     let end = text::put_decimal(n, 0, &mut digits);
-    console::write(&digits, end);
+    console::write(rt, &digits, end);
 }
 
-fn write_number(x: i64) {
+fn write_number(rt: HostRuntime, x: i64) {
     let mut digits = [0u8; DIGITS];
     let end = text::put_signed(x, 0, &mut digits);
-    console::write(&digits, end);
+    console::write(rt, &digits, end);
 }
 
-fn write_refusal(number: u8, place: usize) {
+fn write_refusal(rt: HostRuntime, number: u8, place: usize) {
     let mut line = [0u8; REFUSAL_ROOM];
     let end = text::put_refusal(number as u64, place as u64, 0, &mut line);
-    console::write(&line, end);
+    console::write(rt, &line, end);
 }
 
-fn write_vector(v: Vector) {
-    write(b"(");
-    write_number(v.north);
-    write(b",");
-    write_number(v.east);
-    write(b")");
+fn write_vector(rt: HostRuntime, v: Vector) {
+    write(rt, b"(");
+    write_number(rt, v.north);
+    write(rt, b",");
+    write_number(rt, v.east);
+    write(rt, b")");
 }
 
 fn vector(north: i16, east: i16) -> Vector
@@ -95,19 +94,19 @@ fn north_of(p: Point) -> i64 {
     p.north as i64
 }
 
-fn show_bearing(v: Vector)
+fn show_bearing(rt: HostRuntime, v: Vector)
     requires { Near 1000000 v }
 {
-    write(b"bearing ");
-    write_vector(v);
-    write(b" ");
-    write_number(course::bearing(v) as i64);
-    write(b"\n");
+    write(rt, b"bearing ");
+    write_vector(rt, v);
+    write(rt, b" ");
+    write_number(rt, course::bearing(v) as i64);
+    write(rt, b"\n");
 }
 
-fn show_fix(name: &[u8], north: f32) {
-    write(b"fix ");
-    write(name);
+fn show_fix(rt: HostRuntime, name: &[u8], north: f32) {
+    write(rt, b"fix ");
+    write(rt, name);
     let p = units::locate(Fix {
         north,
         east: 0.0,
@@ -115,73 +114,73 @@ fn show_fix(name: &[u8], north: f32) {
     });
     match p {
         Position::At(p) => {
-            write(b" is ");
-            write_number(north_of(p));
-            write(b"\n");
+            write(rt, b" is ");
+            write_number(rt, north_of(p));
+            write(rt, b"\n");
         }
-        Position::Nowhere => write(b" refused 13\n"),
+        Position::Nowhere => write(rt, b" refused 13\n"),
     }
 }
 
 // An offset from a corner between the legs (1000,0,0) and (0,2000,0).
-fn show_half_plane(north: i16, east: i16) {
+fn show_half_plane(rt: HostRuntime, north: i16, east: i16) {
     let corner = point(0, 0);
     let d = plane::leg_between(corner, point(north, east));
     let a = plane::leg_between(corner, point(1000, 0));
     let b = plane::leg_between(corner, point(0, 2000));
-    write(b"half-plane ");
-    write_vector(vector(north, east));
+    write(rt, b"half-plane ");
+    write_vector(rt, vector(north, east));
     if plane::met(d, a, b) {
-        write(b" met\n");
+        write(rt, b" met\n");
     } else {
-        write(b" not met\n");
+        write(rt, b" not met\n");
     }
 }
 
-fn write_corner(c: Corner) {
+fn write_corner(rt: HostRuntime, c: Corner) {
     let centre = c.centre;
     let z2 = c.z2;
-    write(b" centre ");
-    write_vector(centre);
-    write(b" z2 ");
-    write_vector(z2);
-    write(b"\n");
+    write(rt, b" centre ");
+    write_vector(rt, centre);
+    write(rt, b" z2 ");
+    write_vector(rt, z2);
+    write(rt, b"\n");
 }
 
-fn show_fillet() {
+fn show_fillet(rt: HostRuntime) {
     let a = point(0, 0);
     let b = point(1000, 0);
     let c = point(1000, 1000);
-    write(b"fillet R 200");
+    write(rt, b"fillet R 200");
     if fillets::turn_at(a, b, c) <= 1792 {
-        write_corner(fillets::round_corner(a, b, c, 200));
+        write_corner(rt, fillets::round_corner(a, b, c, 200));
     } else {
-        write(b" refused 11\n");
+        write(rt, b" refused 11\n");
     }
 }
 
-fn write_case(case: u8) {
+fn write_case(rt: HostRuntime, case: u8) {
     if dubins::starts_right(case) {
-        write(b" RS");
+        write(rt, b" RS");
     } else {
-        write(b" LS");
+        write(rt, b" LS");
     }
     if dubins::ends_right(case) {
-        write(b"R");
+        write(rt, b"R");
     } else {
-        write(b"L");
+        write(rt, b"L");
     }
 }
 
 // R 100, from (0,0) course 0.
-fn show_leg(end: Point, arrive: usize)
+fn show_leg(rt: HostRuntime, end: Point, arrive: usize)
     requires { InArea end × (arrive < 4096) }
 {
     let start = point(0, 0);
-    write(b"dubins to ");
-    write_vector(plane::level(end));
-    write(b" course ");
-    write_number(arrive as i64);
+    write(rt, b"dubins to ");
+    write_vector(rt, plane::level(end));
+    write(rt, b" course ");
+    write_number(rt, arrive as i64);
     let found = dubins::shortest_path(Ends {
         start,
         leave: 0,
@@ -193,55 +192,55 @@ fn show_leg(end: Point, arrive: usize)
         Found::Shortest(p) => {
             let z1 = p.z1;
             let z2 = p.z2;
-            write_case(p.case);
-            write(b" length ");
-            write_decimal(p.length);
-            write(b" z1 ");
-            write_vector(z1);
-            write(b" z2 ");
-            write_vector(z2);
-            write(b"\n");
+            write_case(rt, p.case);
+            write(rt, b" length ");
+            write_decimal(rt, p.length);
+            write(rt, b" z1 ");
+            write_vector(rt, z1);
+            write(rt, b" z2 ");
+            write_vector(rt, z2);
+            write(rt, b"\n");
         }
-        Found::Missing => write(b" refused 17\n"),
+        Found::Missing => write(rt, b" refused 17\n"),
     }
 }
 
 // The leg (1000,0) from (0,0).
-fn show_line_heading(d: Vector)
+fn show_line_heading(rt: HostRuntime, d: Vector)
     requires { Near 1000000 d }
 {
-    write(b"heading on a line ");
-    write_vector(d);
-    write(b" ");
-    write_number(heading::line_heading(vector(1000, 0), d) as i64);
-    write(b"\n");
+    write(rt, b"heading on a line ");
+    write_vector(rt, d);
+    write(rt, b" ");
+    write_number(rt, heading::line_heading(vector(1000, 0), d) as i64);
+    write(rt, b"\n");
 }
 
 // R 1000, sense +1.
-fn show_circle_heading(d: Vector)
+fn show_circle_heading(rt: HostRuntime, d: Vector)
     requires { Near 1000000 d }
 {
-    write(b"heading on a circle ");
-    write_vector(d);
-    write(b" ");
-    write_number(heading::circle_heading(d, 1000, true) as i64);
-    write(b"\n");
+    write(rt, b"heading on a circle ");
+    write_vector(rt, d);
+    write(rt, b" ");
+    write_number(rt, heading::circle_heading(d, 1000, true) as i64);
+    write(rt, b"\n");
 }
 
-fn show_bearings() {
-    show_bearing(vector(1, 0));
-    show_bearing(vector(0, 1));
-    show_bearing(vector(1, 1));
-    show_bearing(vector(1000, 2));
-    show_bearing(vector(1000, -1));
+fn show_bearings(rt: HostRuntime) {
+    show_bearing(rt, vector(1, 0));
+    show_bearing(rt, vector(0, 1));
+    show_bearing(rt, vector(1, 1));
+    show_bearing(rt, vector(1000, 2));
+    show_bearing(rt, vector(1000, -1));
 }
 
-fn show_fixes() {
-    show_fix(b"0.25", 0.25);
-    show_fix(b"-0.25", -0.25);
-    show_fix(b"0.04", 0.04);
-    show_fix(b"50000.0", 50000.0);
-    show_fix(b"50000.00390625", 50000.00390625);
+fn show_fixes(rt: HostRuntime) {
+    show_fix(rt, b"0.25", 0.25);
+    show_fix(rt, b"-0.25", -0.25);
+    show_fix(rt, b"0.04", 0.04);
+    show_fix(rt, b"50000.0", 50000.0);
+    show_fix(rt, b"50000.00390625", 50000.00390625);
 }
 
 // ---- plans: which of them load, and what the others are refused with.
@@ -255,39 +254,39 @@ fn put_u16(value: u16, at: usize, file: &mut [u8])
 }
 
 // Whether the newest reader loads a file.
-fn write_verdict(file: &[u8]) {
+fn write_verdict(rt: HostRuntime, file: &[u8]) {
     let loaded = wpl::load(file, records::NEWEST);
     if loaded.refusal == 0 {
-        write(b" loads\n");
+        write(rt, b" loads\n");
     } else {
-        write(b" ");
-        write_refusal(loaded.refusal, loaded.place);
-        write(b"\n");
+        write(rt, b" ");
+        write_refusal(rt, loaded.refusal, loaded.place);
+        write(rt, b"\n");
     }
 }
 
-fn show_fillet_plan(radius: u16) {
+fn show_fillet_plan(rt: HostRuntime, radius: u16) {
     let mut file = plans::FILLETS_FILE;
     put_u16(radius, plans::RADIUS_BYTE, &mut file);
-    write(b"fillet R ");
-    write_decimal(radius as u64);
-    write_verdict(&file);
+    write(rt, b"fillet R ");
+    write_decimal(rt, radius as u64);
+    write_verdict(rt, &file);
 }
 
-fn show_dubins_plan(east: u16) {
+fn show_dubins_plan(rt: HostRuntime, east: u16) {
     let mut file = plans::DUBINS_FILE;
     put_u16(east, plans::EAST_BYTE, &mut file);
-    write(b"dubins to (0,");
-    write_decimal(east as u64);
-    write(b")");
-    write_verdict(&file);
+    write(rt, b"dubins to (0,");
+    write_decimal(rt, east as u64);
+    write(rt, b")");
+    write_verdict(rt, &file);
 }
 
-fn show_plans() {
-    show_fillet_plan(1000);
-    show_fillet_plan(1001);
-    show_dubins_plan(300);
-    show_dubins_plan(299);
+fn show_plans(rt: HostRuntime) {
+    show_fillet_plan(rt, 1000);
+    show_fillet_plan(rt, 1001);
+    show_dubins_plan(rt, 300);
+    show_dubins_plan(rt, 299);
 }
 
 // ---- flights
@@ -436,25 +435,25 @@ fn block_size(s: &[u8], i: usize) -> usize
 }
 
 // The size of a block at i, 0 where there is no whole one, which is then said.
-fn whole_block(s: &[u8], i: usize) -> usize
+fn whole_block(rt: HostRuntime, s: &[u8], i: usize) -> usize
     requires { (i ≤ 66000) × (i ≤ length s.now) }
     ensures { i + result ≤ length s.now }
 {
     let size = block_size(s, i);
     if size == 0 {
-        write(b"no block at byte ");
+        write(rt, b"no block at byte ");
     } else if s.len() - i < size {
-        write(b"block cut at byte ");
+        write(rt, b"block cut at byte ");
     } else {
         return size;
     }
-    write_decimal(i as u64);
-    write(b"\n");
+    write_decimal(rt, i as u64);
+    write(rt, b"\n");
     0
 }
 
 // The line of a fix, by its number since the last state.
-fn show(number: u64, answer: Answer) {
+fn show(rt: HostRuntime, number: u64, answer: Answer) {
     let mut words = [0u32; c_answer::ANSWER];
     let mut numbers = [0.0f32; c_answer::COMMAND];
     let command = answer.command;
@@ -462,34 +461,34 @@ fn show(number: u64, answer: Answer) {
     c_answer::put_command(command, &mut numbers);
     let mut line = [0u8; report::FIX_ROOM];
     let end = report::put_fix(number, &words, &numbers, 0, &mut line);
-    console::write(&line, end);
+    console::write(rt, &line, end);
 }
 
 // The state after the fix at i, whose line is written.
-fn fly_fix(s: &[u8], i: usize, number: u64, state: State) -> State
+fn fly_fix(rt: HostRuntime, s: &[u8], i: usize, number: u64, state: State) -> State
     requires { i ≤ 66000 }
 {
     let stepped = state.step(u32_at(s, i + 1), fix_at(s, i + 5));
     let answer = stepped.answer;
-    show(number, answer);
+    show(rt, number, answer);
     stepped.state
 }
 
 // All blocks, up to one that isn't whole.
-fn fly_blocks(s: &[u8])
+fn fly_blocks(rt: HostRuntime, s: &[u8])
     requires { length s.now ≤ 65536 }
 {
     let mut state = manager::empty();
     let mut fixes: u64 = 0;
     let mut i: usize = 0;
     while i < s.len() {
-        let size = whole_block(s, i);
+        let size = whole_block(rt, s, i);
         if size == 0 {
             return;
         }
         if s[i] == FIX_LETTER {
             fixes += 1;
-            state = fly_fix(s, i, fixes, state);
+            state = fly_fix(rt, s, i, fixes, state);
         } else {
             fixes = 0;
             state = state_at(s, i);
@@ -498,30 +497,31 @@ fn fly_blocks(s: &[u8])
     }
 }
 
-// Room that is left in the buffer shows that standard input was read to its end.
-fn fly() {
-    let mut space = io::large_buffer();
-    let n = io::read_full(STDIN_FILENO, &mut space);
-    if n < LARGE_BUFFER {
-        fly_blocks(&space[..n]);
+// Room that is left in the buffer shows that standard input was read to its end, or as far as it could be read, which is then said.
+fn fly(rt: HostRuntime) {
+    let mut space = [0u8; INPUT_ROOM];
+    let read = console::read(rt, &mut space);
+    let count = read.count;
+    if count < INPUT_ROOM {
+        fly_blocks(rt, &space[..count]);
     } else {
-        write(b"input longer than 65535 bytes\n");
+        write(rt, b"input longer than 65535 bytes\n");
     }
 }
 
-fn main() {
-    show_bearings();
-    show_fixes();
-    show_half_plane(0, 0);
-    show_half_plane(-1, 1);
-    show_half_plane(-3, 2);
-    show_fillet();
-    show_leg(point(1000, 0), 0);
-    show_leg(point(0, 1000), 2048);
-    show_leg(point(0, 300), 0);
-    show_line_heading(vector(0, 500));
-    show_circle_heading(vector(1000, 0));
-    show_circle_heading(vector(0, 0));
-    show_plans();
-    fly();
+fn main(rt: HostRuntime) {
+    show_bearings(rt);
+    show_fixes(rt);
+    show_half_plane(rt, 0, 0);
+    show_half_plane(rt, -1, 1);
+    show_half_plane(rt, -3, 2);
+    show_fillet(rt);
+    show_leg(rt, point(1000, 0), 0);
+    show_leg(rt, point(0, 1000), 2048);
+    show_leg(rt, point(0, 300), 0);
+    show_line_heading(rt, vector(0, 500));
+    show_circle_heading(rt, vector(1000, 0));
+    show_circle_heading(rt, vector(0, 0));
+    show_plans(rt);
+    fly(rt);
 }

@@ -4,21 +4,31 @@
 #![tactic(auto)]
 
 ghost use Rattle.std.specs.Prelude.{◌≡◌, ◌+◌, ◌*◌, ◌≤◌, ◌<◌, length};
-ghost use Rattle.io.specs.Counts.{IsPrefixLen};
+ghost use Rattle.console.specs.Counts.{IsPrefixLen};
 
+use console::Filled;
 use flight::Flown;
 use manager::State;
 use records::u32_at;
+use std::env::Env;
+use std::fs::File;
+use std::io::{Error, ErrorKind, Result};
 use text::float;
 
-// How many arguments there are, the program's own name among them, and where each stands.
-const ARGUMENTS: usize = 4;
-
+// Where each argument stands, behind the program's own name, and where another one would.
 const READER: usize = 1;
 
 const PLAN: usize = 2;
 
 const FIXES: usize = 3;
+
+const PAST: usize = 4;
+
+// Room for an argument: one byte more than the longest name of a file.
+const NAME_ROOM: usize = 4096;
+
+// The system's number for a name that is too long.
+const NAME_TOO_LONG: i32 = 36;
 
 // One more than a reader's number can be, and the base that it is written in.
 const READERS: u64 = 4294967296;
@@ -30,7 +40,7 @@ const FIX_BYTES: usize = 16;
 
 const WORD_BYTES: usize = 4;
 
-// How many fixes a chunk has: those of io::buffer.
+// How many fixes a chunk has.
 const CHUNK: usize = 256;
 
 const CHUNK_BYTES: usize = 4096;
@@ -54,10 +64,10 @@ enum Parsed {
     Nothing,
 }
 
-// An open file and the length of its name, or a negative descriptor.
+// An open file, or none, and the length of its name.
 #[derive(Drop)]
 struct Opened {
-    descriptor: i32,
+    file: Option<File>,
     length: usize,
 }
 
@@ -76,8 +86,8 @@ struct Next {
     goes_on: bool,
 }
 
-fn complain(text: &[u8]) {
-    console::complain(text, text.len());
+fn complain(rt: HostRuntime, text: &[u8]) {
+    console::complain(rt, text, text.len());
 }
 
 // The value of a digit, TEN for any other byte.
@@ -114,27 +124,38 @@ fn number_of(text: &[u8]) -> Parsed {
     Parsed::Number(n as u32)
 }
 
+// Opens the file of this name. Names are UTF-8; any other can't be opened.
+fn open_named(rt: HostRuntime, name: &[u8]) -> Result<File> {
+    match str::from_utf8(name) {
+        Ok(path) => File::open(&rt, path),
+        Err(_) => Err(Error::new(ErrorKind::InvalidFilename, "not UTF-8")),
+    }
+}
+
+// What a file goes by in a line of trouble: its name, or the word where that is empty.
+fn called<'a>(word: &'a [u8], name: &'a [u8]) -> &'a [u8] {
+    if name.len() == 0 { word } else { name }
+}
+
 // Opens the file that an argument names, or says why it can't; the word stands for a name that is too long or empty.
-fn open(place: usize, word: &[u8], name: &mut [u8]) -> Opened
+fn open(rt: HostRuntime, place: usize, word: &[u8], name: &mut [u8]) -> Opened
     ensures { IsPrefixLen result.length name.new }
 {
-    let length = os::arg(place, name);
-    if os::errno() != 0 {
-        os::fail(word);
+    let Ok(length) = rt.arg(place, name) else {
+        console::fail(rt, word, &Error::from_raw_os_error(NAME_TOO_LONG));
         return Opened {
-            descriptor: -1,
-            length,
+            file: None,
+            length: 0,
         };
+    };
+    let opened = open_named(rt, &name[..length]);
+    if let Err(error) = &opened {
+        console::fail(rt, called(word, &name[..length]), error);
     }
-    let descriptor = os::open_read(&name[..length]);
-    if descriptor < 0 {
-        if length == 0 {
-            os::fail(word);
-        } else {
-            os::fail(&name[..length]);
-        }
+    Opened {
+        file: opened.ok(),
+        length,
     }
-    Opened { descriptor, length }
 }
 
 // The serials that the fixes of a chunk name.
@@ -161,24 +182,24 @@ fn unpack_positions(bytes: &[u8], count: usize, positions: &mut [f32])
 }
 
 // The line of a fix. Answers whether it was written.
-fn show(number: u64, answer: &[u32], numbers: &[f32]) -> bool
+fn show(rt: HostRuntime, number: u64, answer: &[u32], numbers: &[f32]) -> bool
     requires { (8 ≤ length answer.now) × (6 ≤ length numbers.now) }
 {
     let mut line = [0u8; report::FIX_ROOM];
     let end = report::put_fix(number, answer, numbers, 0, &mut line);
-    console::write(&line, end)
+    console::write(rt, &line, end)
 }
 
 // The line of a plan that is refused.
-fn show_refusal(refusal: u8, place: usize) {
+fn show_refusal(rt: HostRuntime, refusal: u8, place: usize) {
     let mut line = [0u8; LINE_ROOM];
     let last = text::put_refusal(refusal as u64, place as u64, 0, &mut line);
     let end = text::put_byte(b'\n', last, &mut line);
-    console::write(&line, end);
+    console::write(rt, &line, end);
 }
 
 // The lines of a chunk, up to one that could not be written. Answers whether all were.
-fn show_all(flown: u64, count: usize, answers: &[u32], commands: &[f32]) -> bool
+fn show_all(rt: HostRuntime, flown: u64, count: usize, answers: &[u32], commands: &[f32]) -> bool
     requires flown_bound { flown < 1152921504606846976 }
     requires count_in_bounds { (8 * count ≤ length answers.now) × (6 * count ≤ length commands.now) }
 {
@@ -187,7 +208,12 @@ fn show_all(flown: u64, count: usize, answers: &[u32], commands: &[f32]) -> bool
         let answer = c_answer::ANSWER * i;
         let command = c_answer::COMMAND * i;
         i += 1;
-        if !show(flown + i as u64, &answers[answer..], &commands[command..]) {
+        if !show(
+            rt,
+            flown + i as u64,
+            &answers[answer..],
+            &commands[command..],
+        ) {
             return false;
         }
     }
@@ -212,6 +238,7 @@ fn fly_lists(
 
 // The same of the first fixes of the lists. Their lines are written, or the refusal of the plan.
 fn fly_shown(
+    rt: HostRuntime,
     before: Before,
     plan: &[u8],
     count: usize,
@@ -235,7 +262,7 @@ fn fly_shown(
     );
     let state = flown.state;
     if flown.refusal != 0 {
-        show_refusal(flown.refusal, flown.place);
+        show_refusal(rt, flown.refusal, flown.place);
         return Next {
             state,
             goes_on: false,
@@ -243,12 +270,13 @@ fn fly_shown(
     }
     Next {
         state,
-        goes_on: show_all(before.flown, count, answers, commands),
+        goes_on: show_all(rt, before.flown, count, answers, commands),
     }
 }
 
 // The same of a chunk's bytes, with lists lent for them.
 fn fly_lent(
+    rt: HostRuntime,
     before: Before,
     plan: &[u8],
     bytes: &[u8],
@@ -264,11 +292,13 @@ fn fly_lent(
     let count = bytes.len() / FIX_BYTES;
     unpack_serials(bytes, count, serials);
     unpack_positions(bytes, flight::FIX_NUMBERS * count, positions);
-    fly_shown(before, plan, count, serials, positions, answers, commands)
+    fly_shown(
+        rt, before, plan, count, serials, positions, answers, commands,
+    )
 }
 
 // The same, with room for the lists.
-fn fly_chunk(before: Before, plan: &[u8], bytes: &[u8]) -> Next
+fn fly_chunk(rt: HostRuntime, before: Before, plan: &[u8], bytes: &[u8]) -> Next
     requires { (before.flown < 1152921504606846976) × (length bytes.now ≤ 4096) }
 {
     let mut serials = [0u32; CHUNK];
@@ -276,6 +306,7 @@ fn fly_chunk(before: Before, plan: &[u8], bytes: &[u8]) -> Next
     let mut answers = [0u32; ANSWERS];
     let mut commands = [0.0f32; COMMANDS];
     fly_lent(
+        rt,
         before,
         plan,
         bytes,
@@ -287,108 +318,121 @@ fn fly_chunk(before: Before, plan: &[u8], bytes: &[u8]) -> Next
 }
 
 // Says which fix has no more than its first bytes, where the file ends in one.
-fn tell_cut(name: &[u8], count: usize, flown: u64)
+fn tell_cut(rt: HostRuntime, name: &[u8], count: usize, flown: u64)
     requires { flown < 1152921504606846976 }
 {
     if count % FIX_BYTES == 0 {
         return;
     }
-    complain(name);
+    complain(rt, name);
     let mut line = [0u8; LINE_ROOM];
     let number = flown + (count / FIX_BYTES) as u64 + 1;
     let last = text::put_count(b": fix ", number, 0, &mut line);
     let end = text::put_text(b" is cut short\n", last, &mut line);
-    console::complain(&line, end);
+    console::complain(rt, &line, end);
 }
 
 // Reads a chunk and flies it; one that can't be read whole is not flown.
-fn fly_next(before: Before, plan: &[u8], descriptor: i32, name: &[u8]) -> Next
+fn fly_next(rt: HostRuntime, before: Before, plan: &[u8], fixes: &mut File, name: &[u8]) -> Next
     requires { before.flown < 1152921504606846976 }
 {
-    let mut space = io::buffer();
-    let read = console::fill(descriptor, name, &mut space);
+    let mut space = [0u8; CHUNK_BYTES];
+    let read = console::fill(rt, fixes, name, &mut space);
     let count = read.count;
-    let state = before.state;
+    let flown = before.flown;
     if read.failed {
         return Next {
-            state,
+            state: before.state,
             goes_on: false,
         };
     }
-    let next = fly_chunk(before, plan, &space[..count]);
+    let next = fly_chunk(rt, before, plan, &space[..count]);
     if !next.goes_on {
         return next;
     }
-    tell_cut(name, count, before.flown);
-    let after = next.state;
+    tell_cut(rt, name, count, flown);
     Next {
-        state: after,
+        state: next.state,
         goes_on: count == CHUNK_BYTES,
     }
 }
 
 // Every chunk of the fixes.
-fn fly_all(reader: u32, plan: &[u8], descriptor: i32, name: &[u8]) {
+fn fly_all(rt: HostRuntime, reader: u32, plan: &[u8], fixes: &mut File, name: &[u8]) {
     let mut state = manager::empty();
     let mut flown: u64 = 0;
     while flown < MOST_FIXES {
         let next = fly_next(
+            rt,
             Before {
                 reader,
                 flown,
                 state,
             },
             plan,
-            descriptor,
+            fixes,
             name,
         );
         if !next.goes_on {
             return;
         }
-        let after = next.state;
-        state = after;
+        state = next.state;
         flown += CHUNK as u64;
     }
 }
 
 // Opens the fixes and flies them.
-fn fly_fixes(reader: u32, plan: &[u8]) {
-    let mut name = io::buffer();
-    let opened = open(FIXES, b"FIXES", &mut name);
+fn fly_fixes(rt: HostRuntime, reader: u32, plan: &[u8]) {
+    let mut name = [0u8; NAME_ROOM];
+    let opened = open(rt, FIXES, b"FIXES", &mut name);
     let length = opened.length;
-    if opened.descriptor < 0 {
-        return;
+    if let Some(mut fixes) = opened.file {
+        fly_all(rt, reader, plan, &mut fixes, &name[..length]);
     }
-    fly_all(reader, plan, opened.descriptor, &name[..length]);
-    libc::close(opened.descriptor);
+}
+
+// Opens the plan and reads it; the file is closed before the fixes are opened.
+fn read_plan(rt: HostRuntime, space: &mut [u8]) -> Filled
+    ensures { IsPrefixLen result.count space.new }
+{
+    let mut name = [0u8; NAME_ROOM];
+    let opened = open(rt, PLAN, b"PLAN", &mut name);
+    let length = opened.length;
+    match opened.file {
+        Some(mut plan) => console::fill(rt, &mut plan, &name[..length], space),
+        None => Filled {
+            count: 0,
+            failed: true,
+        },
+    }
 }
 
 // Reads the plan and goes on with the fixes.
-fn fly_plan(reader: u32) {
-    let mut name = io::buffer();
-    let opened = open(PLAN, b"PLAN", &mut name);
-    let length = opened.length;
-    if opened.descriptor < 0 {
-        return;
-    }
+fn fly_plan(rt: HostRuntime, reader: u32) {
     let mut space = [0u8; report::FILE_ROOM];
-    let read = console::fill(opened.descriptor, &name[..length], &mut space);
-    libc::close(opened.descriptor);
+    let read = read_plan(rt, &mut space);
     let count = read.count;
     if !read.failed {
-        fly_fixes(reader, &space[..count]);
+        fly_fixes(rt, reader, &space[..count]);
     }
 }
 
-fn main() {
-    if os::arg_count() != ARGUMENTS {
-        complain(b"usage: fly READER PLAN FIXES\n");
+// The reader's number, which the first argument is.
+fn reader(rt: HostRuntime) -> Parsed {
+    let mut text = [0u8; NAME_ROOM];
+    match rt.arg(READER, &mut text) {
+        Ok(length) => number_of(&text[..length]),
+        Err(_) => Parsed::Nothing,
+    }
+}
+
+fn main(rt: HostRuntime) {
+    if !console::has_argument(&rt, FIXES) || console::has_argument(&rt, PAST) {
+        complain(rt, b"usage: fly READER PLAN FIXES\n");
         return;
     }
-    let mut text = io::buffer();
-    let length = os::arg(READER, &mut text);
-    match number_of(&text[..length]) {
-        Parsed::Number(reader) => fly_plan(reader),
-        Parsed::Nothing => complain(b"READER is no decimal number below 4294967296\n"),
+    match reader(rt) {
+        Parsed::Number(number) => fly_plan(rt, number),
+        Parsed::Nothing => complain(rt, b"READER is no decimal number below 4294967296\n"),
     }
 }

@@ -45,9 +45,9 @@ fn agreeing() -> u64 {
     count
 }
 
-fn main() {
+fn main(rt: HostRuntime) {
     let mut line = [0u8; LINE_ROOM];
     let count = text::put_decimal(agreeing(), 0, &mut line);
     let end = text::put_text(b" of 1025 entries agree\n", count, &mut line);
-    console::write(&line, end);
+    console::write(rt, &line, end);
 }

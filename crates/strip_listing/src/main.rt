@@ -2,22 +2,22 @@
 // 16). It takes no arguments; those, and input that can't be read, are trouble: one line on standard error and nothing else.
 #![tactic(auto)]
 
-// How many arguments there are, the program's own name.
-const ARGUMENTS: usize = 1;
+// Where an argument would stand, behind the program's own name.
+const ARGUMENT: usize = 1;
 
-fn main() {
-    if ARGUMENTS < os::arg_count() {
+fn main(rt: HostRuntime) {
+    if console::has_argument(&rt, ARGUMENT) {
         let usage = b"usage: strip_listing < PLAN\n";
-        console::complain(usage, usage.len());
+        console::complain(rt, usage, usage.len());
         return;
     }
     let mut file = [0u8; report::FILE_ROOM];
-    let read = console::read(&mut file);
+    let read = console::read(rt, &mut file);
     let count = read.count;
     if read.failed {
         return;
     }
     let mut text = [0u8; strip_report::STRIP_LISTING_ROOM];
     let length = strip_report::strip_listing(&file[..count], &mut text);
-    console::write(&text, length);
+    console::write(rt, &text, length);
 }
