@@ -11,7 +11,6 @@ use Rattle.refusals.specs.declared.Refusal.{Refusal}
 use Rattle.refusals.specs.Outcome.{Outcome, good, refused, refusal_of}
 use Rattle.refusals.proofs.OutcomeLaws.{then-good, then-stops}
 use Rattle.buffers.specs.Splice.{over}
-use Rattle.manager.specs.declared.State.{State}
 use Rattle.c_state.specs.Stored.{state_at, holds_state, taken_of}
 use Rattle.c_state.proofs.TakenLaws.{held, not-held}
 use Rattle.flight.specs.Run.{run}
@@ -19,7 +18,7 @@ use Rattle.flight.specs.Flight.{last_of}
 use Rattle.distance.specs.declared.Measured.{Measured}
 use Rattle.distance.specs.Table.{distances_of, table_of, distance_of, distance_by}
 use Rattle.distance.proofs.KeptLaws.{table_kept}
-use Rattle.autopilot.specs.CallList.{Call, words_in_the_end, fixes_of}
+use Rattle.autopilot.specs.CallList.{words_in_the_end, fixes_of}
 use Rattle.autopilot.specs.Distances.{distances_in, distance_in, distances_words, distances_result, distances_table, distances_answer, distance_words, distance_result, distance_answer, TablesStay}
 use Rattle.autopilot.proofs.HeldLaws.{calls-run}
 use Rattle.autopilot.proofs.LeavesLaws.{Leaves, leaves-unfit, leaves-fit}

@@ -14,7 +14,7 @@ use Rattle.manager.specs.declared.State.{State}
 use Rattle.strips.specs.declared.Checked.{Checked}
 use Rattle.strips.specs.declared.Strip.{Strip}
 use Rattle.strips.specs.Check.{refused_check, check_of, no_strip, strip_row}
-use Rattle.c_state.specs.Stored.{taken_of, pair_fits}
+use Rattle.c_state.specs.Stored.{pair_fits}
 
 -- ---- any call
 -- what it returns: the refusal that it tells, 0 for none, or 100 where a lent slice is too short

@@ -4,8 +4,6 @@ use Rattle.std.specs.Prelude.{◌≡◌, true, false, List, [], ◌∷◌, ℕ, 
 use Rattle.refusals.specs.Outcome.{refused}
 use Rattle.wpl.specs.Load.{loaded_of}
 use Rattle.strips.specs.Check.{refused_check}
-use Rattle.strips.specs.declared.Checked.{Checked}
-use Rattle.strips.specs.declared.Strip.{Strip}
 use Rattle.desk.specs.Calls.{call_result, words_fit, words_answer, note_fits, note_buffer, note_answer, check_words, check_in, strips_words, strips_fit, strip_row_in, strip_words, strip_fits}
 
 -- a note, the buffer and the answer

@@ -1,13 +1,12 @@
 -- The pass from the last leg to the first: what it carries at the start, and over a leg of each mode. Assumes nothing.
 use mathlib.Core.Path.{◌≡◌, refl, sym, ap, ◌∙◌, subst}
 use mathlib.Core.Bool.{true}
-use Prim.Native.Nat.{ℕ, ◌+◌, ◌-◌, ◌*◌, ◌≤◌, ◌<◌}
+use Prim.Native.Nat.{ℕ, ◌+◌, ◌-◌, ◌≤◌, ◌<◌}
 use native.Mathlib.Omega.{arith}
-use lib.IntN.{ℤ}
 use Rattle.integers.specs.Root.{root_of}
 use Rattle.integers.proofs.RootLaws.{root-lt}
 use Rattle.plane.specs.declared.Point.{Point}
-use Rattle.plane.specs.Level.{level_leg_of, square_of, vector_length, arc_of}
+use Rattle.plane.specs.Level.{vector_length, arc_of}
 use Rattle.fillets.specs.Corners.{lesser_turn, turn_between, corner_turn, tangent_of}
 use Rattle.dubins.specs.Choice.{shortest_of, found_length}
 use Rattle.plan.specs.declared.LevelLeg.{LevelLeg}
@@ -15,7 +14,7 @@ use Rattle.plan.specs.declared.Mode.{Mode}
 use Rattle.plan.specs.declared.Mode.TheVariants.{Lines, Fillets, Dubins}
 use Rattle.plan.specs.declared.Plan.{Plan}
 use Rattle.plan.specs.Limits.{most_points, most_radius}
-use Rattle.plan.specs.Places.{place_at, plan_point, plan_course}
+use Rattle.plan.specs.Places.{plan_point, plan_course}
 use Rattle.plan.specs.Rules.{ends_at, tangent_at}
 use Rattle.plan.specs.Stands.{IsLevelLeg, Placed, Aiming, Long, ByMode}
 use Rattle.plan.proofs.FilletLegLaws.{tangent-first, tangent-corner, tangent-last}
@@ -25,7 +24,7 @@ use Rattle.manager.specs.State.{valid_of}
 use Rattle.manager.proofs.StateLaws.{valid-stands, valid-means}
 use Rattle.distance.specs.declared.Rounding.{Rounding}
 use Rattle.distance.specs.declared.Carry.{Carry}
-use Rattle.distance.specs.Lengths.{total, level_length, leg_length, corner_arc, length_from, plan_length}
+use Rattle.distance.specs.Lengths.{total, level_length, leg_length, corner_arc, plan_length}
 use Rattle.distance.specs.Pass.{Sound, CornerThere, Rounded, AddedUp}
 use Rattle.distance.proofs.SumLaws.{total-next, lines-arcs, dubins-arcs, length-end, length-next}
 

@@ -1,7 +1,7 @@
 -- What a written table holds at each place; that it owes the plan what `Summary` says, and nothing else does. Assumes nothing.
-use mathlib.Core.Path.{◌≡◌, refl, sym, ap, ◌∙◌, subst}
-use mathlib.Core.Bool.{Bool, true, false}
-use mathlib.Core.List.{List, [], ◌∷◌, ◌++◌}
+use mathlib.Core.Path.{◌≡◌, refl, sym, ap, ◌∙◌}
+use mathlib.Core.Bool.{true, false}
+use mathlib.Core.List.{List, ◌++◌}
 use Prim.Native.Nat.{ℕ, zero, suc, ◌+◌, ◌-◌, ◌≤◌, ◌<◌}
 use native.Mathlib.Decide.{dec_lt}
 use native.Mathlib.Omega.{arith}
@@ -11,7 +11,7 @@ use lib.Seq.{length-take-le, get_or-append-add, get_or-take, get_or-drop, ext_ge
 use borrow.Author.Tests.{le-leb, lt-leb}
 use Rattle.conditions.proofs.Bools.{by_bool, clash}
 use Rattle.refusals.specs.Numbers.{no_state, no_room}
-use Rattle.refusals.specs.Outcome.{Outcome, good, refused, check}
+use Rattle.refusals.specs.Outcome.{Outcome, good, refused}
 use Rattle.refusals.proofs.OutcomeLaws.{check-true, check-false}
 use Rattle.buffers.specs.Splice.{splice}
 use Rattle.plan.specs.declared.Plan.{Plan}

@@ -1,6 +1,6 @@
 -- Clauses 6.7, 7.16, 8.3, 15.1, 21.5 to 21.7: the table of a plan and the distance at a state: what is answered, what a lent table holds afterwards, and
 -- what both owe the sums of Lengths. Assumes nothing.
-use Rattle.std.specs.Prelude.{◌≡◌, true, false, List, [], ◌∷◌, ◌⊎◌, ℕ, zero, suc, ◌+◌, ◌-◌, ◌≤◌, ◌<◌, leb, length, get_or}
+use Rattle.std.specs.Prelude.{◌≡◌, true, List, [], ◌∷◌, ℕ, zero, suc, ◌+◌, ◌-◌, ◌≤◌, ◌<◌, leb, length, get_or}
 use Rattle.refusals.specs.Numbers.{no_state, no_room}
 use Rattle.refusals.specs.Outcome.{Outcome, good, refused, check}
 use Rattle.buffers.specs.Splice.{splice}

@@ -8,7 +8,6 @@ use lib.ListN.{length}
 use borrow.Author.Tests.{le-leb, lt-leb, eq-eqb, ne_eqb}
 use Rattle.conditions.proofs.ChooseLaws.{choose-true, choose-false}
 use Rattle.refusals.specs.Outcome.{Outcome, good, refused}
-use Rattle.buffers.specs.Splice.{over}
 use Rattle.buffers.proofs.SpliceLaws.{at_front}
 use Rattle.text.specs.Parts.{refusal_text}
 use Rattle.text.specs.Written.{Wrote}

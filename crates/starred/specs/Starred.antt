@@ -12,7 +12,6 @@ use Rattle.plane.specs.Samples.{ground}
 use Rattle.units.specs.Decimetres.{decimetres_of}
 use Rattle.fillets.specs.Corners.{corner_of}
 use Rattle.dubins.specs.declared.Ends.{Ends}
-use Rattle.dubins.specs.declared.Path.{Path}
 use Rattle.dubins.specs.declared.Found.{Found}
 use Rattle.dubins.specs.declared.Found.TheVariants.{Shortest, Missing}
 use Rattle.dubins.specs.Choice.{case_path, shortest_of}

@@ -7,14 +7,13 @@ use native.Mathlib.Omega.{arith}
 use borrow.Author.Tests.{eq-eqb, ltb-true, ltb-false}
 use Rattle.conditions.proofs.Bools.{by_bool, clash, both_true}
 use Rattle.refusals.specs.Outcome.{Outcome, good, refused, is_good}
-use Rattle.refusals.specs.Sweep.{Done, done, sweep}
+use Rattle.refusals.specs.Sweep.{Done, done}
 use Rattle.refusals.proofs.OutcomeLaws.{never-good}
 use Rattle.refusals.proofs.OrderLaws.{order}
 use Rattle.refusals.proofs.FoundLaws.{found_of}
 use Rattle.refusals.proofs.SweepLaws.{sweep-means}
 use Rattle.course.specs.Bearing.{bearing_of}
 use Rattle.plane.specs.declared.Point.{Point}
-use Rattle.plan.specs.declared.Mode.TheVariants.{Dubins}
 use Rattle.plan.specs.declared.Plan.{Plan}
 use Rattle.plan.specs.Places.{plan_point, plan_course}
 use Rattle.manager.specs.declared.State.{State}

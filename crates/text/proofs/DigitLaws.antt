@@ -9,7 +9,6 @@ use lib.Signed.{◌≤ℤ◌, ◌<ℤ◌}
 use lib.IntN.{ℤ, pos, negsuc, nat_abs}
 use lib.ListN.{length, length-append}
 use borrow.Author.Tests.{lt-ltb, le-ltb}
-use Rattle.conditions.specs.Choose.{choose}
 use Rattle.conditions.proofs.ChooseLaws.{choose-true, choose-false}
 use Rattle.text.specs.Digits.{digits_in, decimal_of, signed_text, hex_digit, hex_of}
 

@@ -1,5 +1,4 @@
 -- `decide_at` lends the blocks of the words. Assumes nothing.
-use borrow.Author.Rules.{rules}
 use Rattle.autopilot.proofs.FixLaws.{decided-there}
 use Rattle.autopilot.proofs.decide_at.Goals as goal
 

@@ -1,6 +1,5 @@
 -- `distance_at` lends the blocks of words that hold a state. Assumes nothing.
 use mathlib.Core.Path.{sym, ap, ◌∙◌}
-use borrow.Author.Rules.{rules}
 use Rattle.manager.specs.declared.State.{State}
 use Rattle.distance.specs.Table.{distance_of, distance_by}
 use Rattle.c_state.proofs.TakenLaws.{state-there}

@@ -3,7 +3,6 @@ use mathlib.Core.Path.{sym, ap, ◌∙◌}
 use mathlib.Core.List.{List}
 use Prim.Native.Nat.{ℕ}
 use lib.ListN.{length}
-use borrow.Author.Rules.{rules}
 use Rattle.refusals.specs.Outcome.{Outcome, refusal_of}
 use Rattle.manager.specs.declared.State.{State}
 use Rattle.distance.specs.Table.{distances_of, table_of}

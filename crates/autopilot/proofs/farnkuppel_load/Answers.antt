@@ -1,10 +1,9 @@
 -- `farnkuppel_load` fills the blocks of the words and puts the words before them, or writes nothing where a slice is too short. Assumes nothing.
-use mathlib.Core.Path.{◌≡◌, refl, sym, ap, ◌∙◌}
+use mathlib.Core.Path.{refl, sym, ap, ◌∙◌}
 use mathlib.Core.List.{[], ◌∷◌}
 use Prim.Native.Nat.{ℕ, ◌≤◌, ◌<◌}
 use native.Mathlib.Omega.{arith}
 use lib.ListN.{length}
-use borrow.Author.Tests.{not-true, not-false}
 use Rattle.buffers.specs.Splice.{over}
 use Rattle.c_state.specs.Stored.{state_length}
 use Rattle.c_state.proofs.TakenLaws.{pair-means}

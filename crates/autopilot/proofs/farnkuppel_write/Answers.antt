@@ -1,9 +1,8 @@
 -- `farnkuppel_write` writes the plan that the words hold, or nothing where they hold none or a slice is too short. Assumes nothing.
-use mathlib.Core.Path.{◌≡◌, refl, sym, ap, ◌∙◌}
+use mathlib.Core.Path.{refl, sym, ap, ◌∙◌}
 use mathlib.Core.List.{List, [], ◌∷◌}
 use Prim.Native.Nat.{ℕ, ◌≤◌}
 use lib.ListN.{length}
-use borrow.Author.Tests.{not-true, not-false}
 use Rattle.refusals.specs.Outcome.{Outcome}
 use Rattle.buffers.specs.Splice.{over}
 use Rattle.c_answer.specs.Words.{word_of}
@@ -11,7 +10,6 @@ use Rattle.c_state.specs.Stored.{state_length}
 use Rattle.c_state.proofs.TakenLaws.{pair-means, held, not-held}
 use Rattle.wpl.specs.Write.{written_of, buffer_of}
 use Rattle.autopilot.proofs.CallLaws.{write-unfit, write-fit, write-none, from-none, from-state}
-use borrow.Author.Rules.{rules}
 use Rattle.autopilot.proofs.farnkuppel_write.Goals as goal
 use Rattle.autopilot.proofs.farnkuppel_write.Goals.{Else-not-fits}
 

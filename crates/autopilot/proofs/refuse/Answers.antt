@@ -1,5 +1,4 @@
 -- `refuse` answers 14 with the words of index, phase and finished. Assumes nothing.
-use borrow.Author.Rules.{rules}
 use Rattle.autopilot.proofs.refuse.Goals as goal
 
 pub returns : goal.returns

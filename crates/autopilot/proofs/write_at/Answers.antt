@@ -5,7 +5,6 @@ use Rattle.manager.specs.declared.State.{State}
 use Rattle.wpl.specs.Write.{write_of, written_of, buffer_of}
 use Rattle.c_state.proofs.StoredLaws.{blocks-lent}
 use Rattle.c_state.proofs.TakenLaws.{state-there}
-use borrow.Author.Rules.{rules}
 use Rattle.autopilot.proofs.write_at.Goals as goal
 
 pub write_from-requires : goal.write_from-requires

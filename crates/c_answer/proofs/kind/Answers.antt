@@ -1,5 +1,4 @@
 -- `kind` gives the kind of a command. Assumes nothing.
-use borrow.Author.Rules.{rules}
 use Rattle.c_answer.specs.Words.{kind_of}
 use Rattle.c_answer.proofs.kind.Goals as goal
 

@@ -1,5 +1,4 @@
 -- `put_answer` puts the words of an answer at the front of a part. Assumes nothing.
-use borrow.Author.Rules.{rules}
 use Rattle.c_answer.proofs.Anchors.{answers}
 use Rattle.c_answer.specs.Words.{answer_words}
 use Rattle.c_answer.proofs.put_answer.Goals as goal

@@ -1,5 +1,4 @@
 -- `put_answer_at` lends the part from an offset to `put_answer`. Assumes nothing.
-use borrow.Author.Rules.{rules}
 use Rattle.buffers.proofs.SpliceLaws.{lent}
 use Rattle.c_answer.specs.Words.{answer_words}
 use Rattle.c_answer.proofs.put_answer_at.Goals as goal

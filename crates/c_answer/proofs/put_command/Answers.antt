@@ -1,6 +1,5 @@
 -- `put_command` puts the numbers of a command at the front of a part. Assumes nothing.
 use lib.Ieee.{of_bits}
-use borrow.Author.Rules.{rules}
 use Rattle.c_answer.proofs.Anchors.{commands}
 use Rattle.c_answer.specs.Words.{command_numbers}
 use Rattle.c_answer.proofs.put_command.Goals as goal

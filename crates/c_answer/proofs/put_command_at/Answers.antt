@@ -1,5 +1,4 @@
 -- `put_command_at` lends the part from an offset to `put_command`. Assumes nothing.
-use borrow.Author.Rules.{rules}
 use Rattle.buffers.proofs.SpliceLaws.{lent}
 use Rattle.c_answer.specs.Words.{command_numbers}
 use Rattle.c_answer.proofs.put_command_at.Goals as goal

@@ -1,6 +1,5 @@
 -- `head_at` reads what words say of a plan beside its numbers. Assumes nothing.
 use mathlib.Core.Path.{ap, ◌∙◌}
-use borrow.Author.Rules.{rules}
 use Rattle.c_state.specs.Stored.{mode_at}
 use Rattle.c_state.proofs.HoldsLaws.{four-words, radius-fits}
 use Rattle.c_state.proofs.head_at.Goals as goal

@@ -2,7 +2,6 @@
 use mathlib.Core.Path.{sym, ap, ◌∙◌}
 use Prim.Native.Nat.{ℕ}
 use lib.Dec.{leb}
-use borrow.Author.Rules.{rules}
 use Rattle.c_state.proofs.HoldsLaws.{no_mode, no-radius, no-phase, last-test}
 use Rattle.c_state.proofs.Anchors.{edges}
 use Rattle.c_state.proofs.holds_state.Goals as goal

@@ -1,5 +1,4 @@
 -- `mode_word` gives the word of a mode. Assumes nothing.
-use borrow.Author.Rules.{rules}
 use Rattle.c_state.specs.Stored.{mode_word}
 use Rattle.c_state.proofs.mode_word.Goals as goal
 

@@ -1,6 +1,5 @@
 -- `progress_at` reads how far words say that a plan is flown. Assumes nothing.
 use lib.Dec.{eqb}
-use borrow.Author.Rules.{rules}
 use Rattle.c_state.proofs.HoldsLaws.{three-words, phase-fits}
 use Rattle.c_state.proofs.progress_at.Goals as goal
 

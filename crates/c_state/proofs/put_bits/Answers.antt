@@ -1,14 +1,12 @@
 -- `put_bits` puts numbers with no sign into words. The loop's invariant: as many as were reached are put, and the rest is what it was.
 -- Assumes nothing.
 use mathlib.Core.Path.{◌≡◌, sym, ◌∙◌}
-use Prim.Native.Nat.{◌-◌}
 use lib.IntN.{pos}
-use lib.ListN.{length, length-map, get_or-map}
+use lib.ListN.{length-map, get_or-map}
 use mir.Syntax.{w32}
 use mir.Val.{to_z, of_z}
 use borrow.Author.Rules.{rules}
-use Rattle.buffers.proofs.CopyLaws.{Copying, starts, goes_on, ends}
-use Rattle.c_state.specs.Stored.{in_words}
+use Rattle.buffers.proofs.CopyLaws.{starts, goes_on, ends}
 use Rattle.c_state.proofs.put_bits.Goals as goal
 
 pub loop-i-init : goal.loop-i-init

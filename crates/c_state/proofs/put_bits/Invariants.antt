@@ -1,12 +1,7 @@
 -- What the loops of `put_bits` keep, and what falls with each round. Assumes nothing.
-use mathlib.Core.Path.{◌≡◌, sym, ◌∙◌}
 use Prim.Native.Nat.{◌-◌}
-use lib.IntN.{pos}
-use lib.ListN.{length, length-map, get_or-map}
-use mir.Syntax.{w32}
-use mir.Val.{to_z, of_z}
-use borrow.Author.Rules.{rules}
-use Rattle.buffers.proofs.CopyLaws.{Copying, starts, goes_on, ends}
+use lib.ListN.{length}
+use Rattle.buffers.proofs.CopyLaws.{Copying}
 use Rattle.c_state.specs.Stored.{in_words}
 use Rattle.c_state.proofs.put_bits.Given as goal
 

@@ -1,5 +1,4 @@
 -- `put_head` puts the words before the blocks. Assumes nothing.
-use borrow.Author.Rules.{rules}
 use Rattle.c_state.proofs.Anchors.{layout}
 use Rattle.c_state.proofs.put_head.Goals as goal
 

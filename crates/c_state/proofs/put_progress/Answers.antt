@@ -1,5 +1,4 @@
 -- `put_progress` lends the part from the index on. Assumes nothing.
-use borrow.Author.Rules.{rules}
 use Rattle.buffers.proofs.SpliceLaws.{lent}
 use Rattle.c_state.specs.Stored.{index_place, progress_words}
 use Rattle.c_state.proofs.put_progress.Goals as goal

@@ -1,7 +1,6 @@
 -- `farnkuppel_check` hands on the number and the place of a load, or writes nothing where the answer is too short. Assumes nothing.
 use mathlib.Core.Path.{ap, ◌∙◌}
 use mathlib.Core.List.{[], ◌∷◌}
-use borrow.Author.Rules.{rules}
 use Rattle.c_answer.specs.Words.{word_of}
 use Rattle.desk.proofs.Anchors.{words-in-numbers}
 use Rattle.desk.proofs.CallLaws.{words-short, words_long, tell-unfit, tell-fit}

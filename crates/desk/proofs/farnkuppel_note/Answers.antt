@@ -4,7 +4,6 @@ use mathlib.Core.List.{[], ◌∷◌}
 use native.Mathlib.Nat.{le_trans}
 use lib.ListN.{length}
 use lib.Seq.{sets-eq}
-use borrow.Author.Tests.{not-true, not-false}
 use borrow.Author.Rules.{rules}
 use Rattle.wpl.proofs.NoteLengthLaws.{note-short, given-short}
 use Rattle.desk.proofs.Anchors.{in-numbers}

@@ -1,8 +1,6 @@
 -- `farnkuppel_strip` hands on the row of a strip of a state's words, or writes nothing where a slice is too short. Assumes nothing.
 use mathlib.Core.Path.{refl, sym, ap, ◌∙◌}
 use mathlib.Core.List.{[], ◌∷◌}
-use borrow.Author.Rules.{rules}
-use borrow.Author.Tests.{not-true, not-false}
 use Rattle.strips.specs.declared.Strip.{Strip}
 use Rattle.c_answer.specs.Words.{word_of}
 use Rattle.c_state.proofs.TakenLaws.{pair-means}

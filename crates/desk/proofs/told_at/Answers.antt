@@ -1,6 +1,5 @@
 -- `told_at` lends the blocks of words that hold a state. Assumes nothing.
 use mathlib.Core.Path.{sym, ap, ◌∙◌}
-use borrow.Author.Rules.{rules}
 use Rattle.manager.specs.declared.State.{State}
 use Rattle.strips.specs.Check.{check_of, strip_row}
 use Rattle.c_state.proofs.TakenLaws.{state-there}

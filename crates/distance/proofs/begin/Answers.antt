@@ -1,6 +1,5 @@
 -- `begin` carries nothing but the last point. Assumes nothing.
 use native.Mathlib.Omega.{arith}
-use borrow.Author.Rules.{rules}
 use Rattle.plan.specs.Places.{seen}
 use Rattle.distance.proofs.PassLaws.{added-start}
 use Rattle.distance.proofs.begin.Goals as goal

@@ -2,7 +2,6 @@
 use mathlib.Core.Path.{sym, subst}
 use Prim.Native.Nat.{ℕ, ◌≤◌}
 use native.Mathlib.Omega.{arith}
-use borrow.Author.Rules.{rules}
 use Rattle.plan.specs.Limits.{most_turn}
 use Rattle.plan.specs.Places.{place_at}
 use Rattle.distance.proofs.PassLaws.{first-rounded, corner-turn, corner-rounded}

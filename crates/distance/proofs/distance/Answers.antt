@@ -1,5 +1,4 @@
 -- `distance` lends the numbers of a state to `distance_from`. Assumes nothing.
-use borrow.Author.Rules.{rules}
 use Rattle.distance.proofs.SummaryLaws.{at-index}
 use Rattle.distance.proofs.KeptLaws.{table_kept, told-at-the-load}
 use Rattle.distance.proofs.distance.Goals as goal

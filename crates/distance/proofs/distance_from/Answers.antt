@@ -1,16 +1,14 @@
 -- `distance_from` asks 14, and then adds up from the state's index on, telling no entry. Assumes nothing.
-use mathlib.Core.Path.{◌≡◌, refl, sym, ap, ◌∙◌}
-use mathlib.Core.Bool.{true, false}
+use mathlib.Core.Path.{refl, sym, ap, ◌∙◌}
+use mathlib.Core.Bool.{false}
 use Prim.Native.Nat.{ℕ}
 use native.Mathlib.Omega.{arith}
-use borrow.Author.Rules.{rules}
-use borrow.Author.Tests.{not-true, not-false}
 use Rattle.conditions.proofs.Bools.{clash}
 use Rattle.manager.specs.declared.State.{State}
 use Rattle.manager.specs.State.{viewed}
 use Rattle.manager.proofs.StateLaws.{last-is}
 use Rattle.distance.specs.Lengths.{entry_of}
-use Rattle.distance.specs.Table.{distance_of, distance_by}
+use Rattle.distance.specs.Table.{distance_by}
 use Rattle.distance.proofs.PassLaws.{sound-of}
 use Rattle.distance.proofs.SummaryLaws.{distance-refused, distance-answered}
 use Rattle.distance.proofs.distance_from.Goals as goal

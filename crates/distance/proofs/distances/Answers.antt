@@ -3,7 +3,6 @@ use mathlib.Core.Path.{◌≡◌, sym, subst}
 use mathlib.Core.List.{List}
 use Prim.Native.Nat.{ℕ}
 use lib.ListN.{length}
-use borrow.Author.Rules.{rules}
 use Rattle.manager.specs.declared.State.{State}
 use Rattle.distance.specs.Table.{distances_of, table_of, Summary, OneTable}
 use Rattle.distance.specs.Kept.{TableKept}

@@ -1,16 +1,13 @@
 -- `distances_from` asks 14, then 16, and then writes the entries. Assumes nothing.
-use mathlib.Core.Path.{◌≡◌, sym, ap, ◌∙◌}
-use mathlib.Core.Bool.{true, false}
+use mathlib.Core.Path.{sym, ap, ◌∙◌}
 use mathlib.Core.List.{List}
 use Prim.Native.Nat.{ℕ}
 use lib.ListN.{length}
 use native.Mathlib.Omega.{arith}
-use borrow.Author.Rules.{rules}
-use borrow.Author.Tests.{not-true, not-false}
 use Rattle.refusals.specs.Outcome.{Outcome, refusal_of}
 use Rattle.manager.specs.declared.State.{State}
 use Rattle.manager.specs.State.{viewed}
-use Rattle.distance.specs.Table.{distances_of, table_of}
+use Rattle.distance.specs.Table.{table_of}
 use Rattle.distance.proofs.PassLaws.{sound-of}
 use Rattle.distance.proofs.TableLaws.{told-all}
 use Rattle.distance.proofs.SummaryLaws.{refused-state, refused-room, answered}

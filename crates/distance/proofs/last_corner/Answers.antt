@@ -1,6 +1,5 @@
 -- `last_corner` has no arc and no tangent length, and in fillets the last leg. Assumes nothing.
 use mathlib.Core.Path.{sym, ◌∙◌}
-use borrow.Author.Rules.{rules}
 use Rattle.plan.specs.Places.{place_at}
 use Rattle.distance.proofs.PassLaws.{lines_none, dubins-none, last-rounded}
 use Rattle.distance.proofs.last_corner.Goals as goal

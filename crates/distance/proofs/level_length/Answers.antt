@@ -1,6 +1,5 @@
 -- `level_length` takes the root between the points of a leg. Assumes nothing.
 use mathlib.Core.Path.{ap, ◌∙◌}
-use borrow.Author.Rules.{rules}
 use Rattle.plane.specs.Level.{level_leg_of, vector_length}
 use Rattle.plan.proofs.PlaceLaws.{area-at}
 use Rattle.distance.specs.Lengths.{level_length}

@@ -4,9 +4,9 @@ use Prim.Native.Nat.{ℕ, ◌+◌, ◌-◌, ◌≤◌}
 use native.Mathlib.Omega.{arith}
 use Rattle.plan.specs.Places.{seen}
 use Rattle.distance.specs.Lengths.{plan_length}
-use Rattle.distance.specs.Pass.{AddedUp, told_from}
+use Rattle.distance.specs.Pass.{told_from}
 use Rattle.distance.proofs.PassLaws.{last-placed}
-use Rattle.distance.proofs.TableLaws.{Written, written_start, written_on}
+use Rattle.distance.proofs.TableLaws.{written_start, written_on}
 use Rattle.distance.proofs.measure.Goals as goal
 use Rattle.distance.proofs.measure.Goals.{then-told, else-told}
 use mathlib.Core.Logic.{inl, inr}

@@ -1,12 +1,8 @@
 -- What the loops of `measure` keep, and what falls with each round. Assumes nothing.
-use mathlib.Core.Path.{◌≡◌, ap, ◌∙◌}
-use Prim.Native.Nat.{ℕ, ◌+◌, ◌-◌, ◌≤◌}
-use native.Mathlib.Omega.{arith}
+use Prim.Native.Nat.{◌+◌, ◌≤◌}
 use Rattle.plan.specs.Places.{seen}
-use Rattle.distance.specs.Lengths.{plan_length}
-use Rattle.distance.specs.Pass.{AddedUp, told_from}
-use Rattle.distance.proofs.PassLaws.{last-placed}
-use Rattle.distance.proofs.TableLaws.{Written, written_start, written_on}
+use Rattle.distance.specs.Pass.{AddedUp}
+use Rattle.distance.proofs.TableLaws.{Written}
 use Rattle.distance.proofs.measure.Given as goal
 
 abbrev pub invariant-loop-i : goal.invariant-loop-i

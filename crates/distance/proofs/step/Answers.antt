@@ -2,7 +2,6 @@
 use mathlib.Core.Path.{◌≡◌, ap, ◌∙◌}
 use Prim.Native.Nat.{ℕ, ◌+◌, ◌-◌, ◌≤◌}
 use native.Mathlib.Omega.{arith}
-use borrow.Author.Rules.{rules}
 use Rattle.integers.specs.Root.{root_of}
 use Rattle.dubins.specs.declared.Ends.{Ends}
 use Rattle.dubins.specs.Choice.{shortest_of, found_length}

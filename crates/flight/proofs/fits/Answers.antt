@@ -1,6 +1,5 @@
 -- `fits` divides, so that no length is multiplied past its type. Assumes nothing.
 use mathlib.Core.Path.{sym}
-use borrow.Author.Rules.{rules}
 use Rattle.flight.proofs.ListLaws.{fixes-cut, fixes-other, answers-short, commands-test}
 use Rattle.flight.proofs.fits.Goals as goal
 

@@ -1,6 +1,5 @@
 -- `fix_at` reads three numbers. Assumes nothing.
 use mathlib.Core.Path.{refl}
-use borrow.Author.Rules.{rules}
 use Rattle.flight.proofs.fix_at.Goals as goal
 
 pub returns : goal.returns

@@ -1,7 +1,5 @@
 -- `fly` refuses lists that do not fit and what a load refuses, or flies all fixes from the state that was loaded. Assumes nothing.
 use mathlib.Core.Path.{sym, ap, ◌∙◌}
-use borrow.Author.Tests.{not-true, not-false}
-use borrow.Author.Rules.{rules}
 use Rattle.manager.specs.declared.State.{State}
 use Rattle.wpl.proofs.LoadLaws.{loaded-good, loaded-refused}
 use Rattle.flight.proofs.FlightLaws.{flies-not, load-refused, flies}

@@ -1,13 +1,12 @@
 -- `fly_all` takes the fixes in turn. The loop's invariant is `Underway`: what is left gives what the whole gives. The measure is the fixes that
 -- are left. Assumes nothing.
-use mathlib.Core.Path.{◌≡◌, ap, ◌∙◌}
-use Prim.Native.Nat.{◌-◌}
+use mathlib.Core.Path.{ap, ◌∙◌}
 use native.Mathlib.Omega.{arith}
-use lib.ListN.{length, get_or}
+use lib.ListN.{get_or}
 use borrow.Author.Rules.{rules}
 use Rattle.units.specs.declared.Fix.{Fix}
 use Rattle.manager.specs.Step.{step_of}
-use Rattle.flight.proofs.ListLaws.{fits-means, Underway, starts, goes_on, last-is, answers-are, commands-are}
+use Rattle.flight.proofs.ListLaws.{fits-means, starts, goes_on, last-is, answers-are, commands-are}
 use Rattle.flight.proofs.fly_all.Goals as goal
 
 pub loop-i-init : goal.loop-i-init

@@ -1,12 +1,7 @@
 -- What the loops of `fly_all` keep, and what falls with each round. Assumes nothing.
-use mathlib.Core.Path.{◌≡◌, ap, ◌∙◌}
 use Prim.Native.Nat.{◌-◌}
-use native.Mathlib.Omega.{arith}
-use lib.ListN.{length, get_or}
-use borrow.Author.Rules.{rules}
-use Rattle.units.specs.declared.Fix.{Fix}
-use Rattle.manager.specs.Step.{step_of}
-use Rattle.flight.proofs.ListLaws.{fits-means, Underway, starts, goes_on, last-is, answers-are, commands-are}
+use lib.ListN.{length}
+use Rattle.flight.proofs.ListLaws.{Underway}
 use Rattle.flight.proofs.fly_all.Given as goal
 
 abbrev pub invariant-loop-i : goal.invariant-loop-i

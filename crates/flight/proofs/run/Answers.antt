@@ -1,7 +1,5 @@
 -- `run` refuses lists that do not fit, or flies them all. Assumes nothing.
 use mathlib.Core.Path.{refl, sym, ◌∙◌}
-use borrow.Author.Tests.{not-true, not-false}
-use borrow.Author.Rules.{rules}
 use Rattle.flight.proofs.FlightLaws.{flies-not, flies}
 use Rattle.flight.proofs.run.Goals as goal
 

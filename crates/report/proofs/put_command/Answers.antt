@@ -2,7 +2,6 @@
 use native.Mathlib.Omega.{arith}
 use Rattle.text.proofs.WrittenLaws.{then}
 use Rattle.report.proofs.FixLaws.{is-line, is-circle, is-nothing}
-use borrow.Author.Rules.{rules}
 use Rattle.report.proofs.put_command.Goals as goal
 
 pub returns-then-kind-eq-LINE_KIND : goal.returns-then-kind-eq-LINE_KIND

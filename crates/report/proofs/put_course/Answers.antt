@@ -1,7 +1,6 @@
 -- `put_course` writes a course, or a dash. Assumes nothing.
 use native.Mathlib.Omega.{arith}
 use Rattle.report.specs.Listing.{course_text}
-use borrow.Author.Rules.{rules}
 use Rattle.report.proofs.put_course.Goals as goal
 
 pub returns-in-Lines : goal.returns-in-Lines

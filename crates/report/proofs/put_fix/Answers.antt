@@ -3,7 +3,6 @@ use native.Mathlib.Omega.{arith}
 use Rattle.text.proofs.WrittenLaws.{then}
 use Rattle.report.specs.Fix.{fix_text}
 use Rattle.report.proofs.HoldsLaws.{fix-holds}
-use borrow.Author.Rules.{rules}
 use Rattle.report.proofs.put_fix.Goals as goal
 
 pub returns : goal.returns

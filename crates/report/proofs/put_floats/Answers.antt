@@ -1,8 +1,7 @@
 -- `put_floats` writes the first floats. Assumes nothing.
-use Prim.Native.Nat.{◌-◌}
 use native.Mathlib.Omega.{arith}
 use borrow.Author.Rules.{rules}
-use Rattle.report.proofs.FixLaws.{Floating, starts, fits, goes_on, ends}
+use Rattle.report.proofs.FixLaws.{starts, fits, goes_on, ends}
 use Rattle.report.proofs.put_floats.Goals as goal
 
 pub loop-i-init : goal.loop-i-init

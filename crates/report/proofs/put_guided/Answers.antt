@@ -2,7 +2,6 @@
 use native.Mathlib.Omega.{arith}
 use Rattle.text.proofs.WrittenLaws.{then}
 use Rattle.report.proofs.FixLaws.{guided, not-guided}
-use borrow.Author.Rules.{rules}
 use Rattle.report.proofs.put_guided.Goals as goal
 
 pub returns-then-answer-eq0 : goal.returns-then-answer-eq0

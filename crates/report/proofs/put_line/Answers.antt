@@ -2,7 +2,6 @@
 use native.Mathlib.Omega.{arith}
 use Rattle.text.proofs.WrittenLaws.{then}
 use Rattle.report.specs.Listing.{line_of}
-use borrow.Author.Rules.{rules}
 use Rattle.report.proofs.put_line.Goals as goal
 
 pub returns : goal.returns

@@ -1,8 +1,7 @@
 -- `put_lines` writes a line for each point. Assumes nothing.
-use Prim.Native.Nat.{◌-◌}
 use native.Mathlib.Omega.{arith}
 use borrow.Author.Rules.{rules}
-use Rattle.report.proofs.ListingLaws.{Underway, starts, fits, goes_on, ends}
+use Rattle.report.proofs.ListingLaws.{starts, fits, goes_on, ends}
 use Rattle.report.proofs.put_lines.Goals as goal
 
 pub loop-i-init : goal.loop-i-init

@@ -1,8 +1,6 @@
 -- What the loops of `put_lines` keep, and what falls with each round. Assumes nothing.
 use Prim.Native.Nat.{◌-◌}
-use native.Mathlib.Omega.{arith}
-use borrow.Author.Rules.{rules}
-use Rattle.report.proofs.ListingLaws.{Underway, starts, fits, goes_on, ends}
+use Rattle.report.proofs.ListingLaws.{Underway}
 use Rattle.report.proofs.put_lines.Given as goal
 
 abbrev pub invariant-loop-i : goal.invariant-loop-i

@@ -1,7 +1,6 @@
 -- `put_load` writes the line of a load. Assumes nothing.
 use Rattle.text.proofs.WrittenLaws.{then}
 use Rattle.report.specs.Answers.{load_text}
-use borrow.Author.Rules.{rules}
 use Rattle.report.proofs.put_load.Goals as goal
 
 pub returns : goal.returns

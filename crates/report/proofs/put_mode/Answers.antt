@@ -1,7 +1,6 @@
 -- `put_mode` writes the name of a mode. Assumes nothing.
 use native.Mathlib.Omega.{arith}
 use Rattle.report.specs.Listing.{mode_text}
-use borrow.Author.Rules.{rules}
 use Rattle.report.proofs.put_mode.Goals as goal
 
 pub returns-in-Lines : goal.returns-in-Lines

@@ -1,7 +1,6 @@
 -- `put_note` writes the line of a note. Assumes nothing.
 use Rattle.text.proofs.WrittenLaws.{then}
 use Rattle.report.specs.Answers.{note_text}
-use borrow.Author.Rules.{rules}
 use Rattle.report.proofs.put_note.Goals as goal
 
 pub returns : goal.returns

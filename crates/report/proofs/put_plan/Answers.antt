@@ -1,7 +1,6 @@
 -- `put_plan` writes the first line and the lines of the points. Assumes nothing.
 use Rattle.text.proofs.WrittenLaws.{then}
 use Rattle.report.specs.Listing.{plan_text}
-use borrow.Author.Rules.{rules}
 use Rattle.report.proofs.put_plan.Goals as goal
 
 pub returns : goal.returns

@@ -2,7 +2,6 @@
 use native.Mathlib.Omega.{arith}
 use Rattle.text.proofs.WrittenLaws.{then}
 use Rattle.report.specs.Fix.{progress_text}
-use borrow.Author.Rules.{rules}
 use Rattle.report.proofs.put_progress.Goals as goal
 
 pub returns : goal.returns

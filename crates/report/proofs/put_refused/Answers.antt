@@ -1,7 +1,6 @@
 -- `put_refused` writes a refusal behind a space. Assumes nothing.
 use native.Mathlib.Omega.{arith}
 use Rattle.text.proofs.WrittenLaws.{then}
-use borrow.Author.Rules.{rules}
 use Rattle.report.proofs.put_refused.Goals as goal
 
 pub returns : goal.returns

@@ -1,7 +1,6 @@
 -- `put_sense` writes which way round. Assumes nothing.
 use native.Mathlib.Omega.{arith}
 use Rattle.report.proofs.FixLaws.{sense-right, sense-left}
-use borrow.Author.Rules.{rules}
 use Rattle.report.proofs.put_sense.Goals as goal
 
 pub returns-then-sense-eq1 : goal.returns-then-sense-eq1

@@ -2,7 +2,6 @@
 use Rattle.text.proofs.WrittenLaws.{then}
 use Rattle.report.specs.Answers.{written_text}
 use Rattle.report.proofs.HoldsLaws.{answers-hold}
-use borrow.Author.Rules.{rules}
 use Rattle.report.proofs.put_written.Goals as goal
 
 pub returns : goal.returns

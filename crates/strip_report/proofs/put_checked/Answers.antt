@@ -6,7 +6,6 @@ use Rattle.strips.specs.declared.Checked.{Checked}
 use Rattle.strips.specs.Check.{check_of}
 use Rattle.strip_report.specs.StripListing.{strips_text}
 use Rattle.strip_report.proofs.StripListingLaws.{few-strips, text-passes, text-faults}
-use borrow.Author.Rules.{rules}
 use Rattle.strip_report.proofs.put_checked.Goals as goal
 
 pub put_strips-requires : goal.put_strips-requires

@@ -1,7 +1,6 @@
 -- `put_fault` writes a refused check's number, place and rule. Assumes nothing.
 use Rattle.text.proofs.WrittenLaws.{then}
 use Rattle.strip_report.specs.StripListing.{fault_text}
-use borrow.Author.Rules.{rules}
 use Rattle.strip_report.proofs.put_fault.Goals as goal
 
 pub returns : goal.returns

@@ -2,7 +2,6 @@
 use native.Mathlib.Omega.{arith}
 use Rattle.text.proofs.WrittenLaws.{then}
 use Rattle.strip_report.specs.StripListing.{strip_title}
-use borrow.Author.Rules.{rules}
 use Rattle.strip_report.proofs.put_first_line.Goals as goal
 
 pub returns : goal.returns

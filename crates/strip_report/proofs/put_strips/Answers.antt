@@ -1,10 +1,9 @@
 -- `put_strips` writes a line for each strip. Assumes nothing.
 use mathlib.Core.Path.{refl, sym, ◌∙◌}
-use Prim.Native.Nat.{◌-◌}
 use native.Mathlib.Omega.{arith}
 use borrow.Author.Rules.{rules}
 use Rattle.strips.proofs.RowLaws.{row-there, row_of}
-use Rattle.strip_report.proofs.StripListingLaws.{Underway, starts, fits, goes_on, ends}
+use Rattle.strip_report.proofs.StripListingLaws.{starts, fits, goes_on, ends}
 use Rattle.strip_report.proofs.put_strips.Goals as goal
 
 pub loop-i-init : goal.loop-i-init

@@ -1,6 +1,5 @@
 -- `check` lends the numbers of a state to `check_from`. Assumes nothing.
 use mathlib.Core.Path.{◌≡◌, sym, subst}
-use borrow.Author.Rules.{rules}
 use Rattle.manager.specs.declared.State.{State}
 use Rattle.strips.specs.declared.Checked.{Checked}
 use Rattle.strips.specs.Check.{check_of, Tied, OneAnswer}

@@ -1,7 +1,5 @@
 -- `check_from` asks 14, then the mode and the number of points, then the strips. Assumes nothing.
 use mathlib.Core.Path.{sym, ◌∙◌}
-use borrow.Author.Rules.{rules}
-use borrow.Author.Tests.{not-true, not-false}
 use Rattle.strips.proofs.CheckLaws.{check-unsound, check-unpaired, check-paired, fault-none, fault-found}
 use Rattle.strips.proofs.ThereLaws.{strips-there}
 use Rattle.strips.proofs.check_from.Goals as goal

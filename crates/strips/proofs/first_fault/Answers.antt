@@ -1,12 +1,10 @@
 -- `first_fault` asks the strips one by one, and stops at the first that breaks a rule. Assumes nothing.
-use mathlib.Core.Path.{◌≡◌, refl, sym, ◌∙◌}
-use Prim.Native.Nat.{◌+◌, ◌-◌}
+use mathlib.Core.Path.{refl, sym, ◌∙◌}
+use Prim.Native.Nat.{◌+◌}
 use native.Mathlib.Omega.{arith}
 use Rattle.refusals.specs.Outcome.{refusal_of}
-use Rattle.refusals.specs.Sweep.{sweep}
 use Rattle.refusals.proofs.SweepLaws.{sweep-stop, sweep-next, sweep-hit}
-use Rattle.plan.specs.Places.{place_at, course_at}
-use Rattle.strips.specs.Check.{rule_at, fault_of}
+use Rattle.strips.specs.Check.{fault_of}
 use Rattle.strips.proofs.first_fault.Goals as goal
 
 pub loop-i-init : goal.loop-i-init

@@ -1,12 +1,9 @@
 -- What the loops of `first_fault` keep, and what falls with each round. Assumes nothing.
-use mathlib.Core.Path.{◌≡◌, refl, sym, ◌∙◌}
-use Prim.Native.Nat.{◌+◌, ◌-◌}
-use native.Mathlib.Omega.{arith}
-use Rattle.refusals.specs.Outcome.{refusal_of}
+use mathlib.Core.Path.{◌≡◌}
+use Prim.Native.Nat.{◌-◌}
 use Rattle.refusals.specs.Sweep.{sweep}
-use Rattle.refusals.proofs.SweepLaws.{sweep-stop, sweep-next, sweep-hit}
 use Rattle.plan.specs.Places.{place_at, course_at}
-use Rattle.strips.specs.Check.{rule_at, fault_of}
+use Rattle.strips.specs.Check.{rule_at}
 use Rattle.strips.proofs.first_fault.Given as goal
 
 abbrev pub invariant-loop-i : goal.invariant-loop-i

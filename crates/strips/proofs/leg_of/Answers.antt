@@ -1,5 +1,4 @@
 -- `leg_of` takes the leg between the two points of a strip. Assumes nothing.
-use borrow.Author.Rules.{rules}
 use Rattle.strips.proofs.RuleLaws.{behind, area-there}
 use Rattle.strips.proofs.leg_of.Goals as goal
 

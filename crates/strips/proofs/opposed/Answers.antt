@@ -1,6 +1,5 @@
 -- `opposed` takes the difference of two courses, modulo a full circle. Assumes nothing.
 use native.Mathlib.Omega.{arith}
-use borrow.Author.Rules.{rules}
 use Rattle.integers.proofs.WrapLaws.{wrap-sub}
 use Rattle.strips.specs.Check.{opposed_of}
 use Rattle.strips.proofs.opposed.Goals as goal

@@ -1,5 +1,4 @@
 -- `paired` asks the mode, and whether the number of points is even. Assumes nothing.
-use borrow.Author.Rules.{rules}
 use Rattle.conditions.specs.Both.{both}
 use Rattle.strips.specs.Check.{is_dubins, paired_of}
 use Rattle.strips.proofs.paired.Goals as goal

@@ -1,6 +1,5 @@
 -- `row_at` reads the course and takes the length of a strip. Assumes nothing.
 use mathlib.Core.Path.{ap, ◌∙◌}
-use borrow.Author.Rules.{rules}
 use Rattle.plane.specs.Level.{vector_length}
 use Rattle.strips.proofs.RuleLaws.{course-there, aiming-there}
 use Rattle.strips.proofs.row_at.Goals as goal

@@ -1,8 +1,6 @@
 -- `rule_broken` asks the three rules of a strip in their order. Assumes nothing.
 use mathlib.Core.Path.{◌≡◌, sym, ap, ◌∙◌}
 use Prim.Native.Nat.{◌-◌}
-use borrow.Author.Rules.{rules}
-use borrow.Author.Tests.{not-true, not-false}
 use Rattle.course.specs.Bearing.{bearing_of}
 use Rattle.plan.specs.Places.{place_at, course_at}
 use Rattle.plan.proofs.PlaceLaws.{course-low}

@@ -1,6 +1,5 @@
 -- `told_from` hands on the check, and gives the row of a strip that there is, and zeros else. Assumes nothing.
 use mathlib.Core.Path.{sym, ◌∙◌}
-use borrow.Author.Rules.{rules}
 use Rattle.strips.proofs.RowLaws.{row-there, row_of, row-past, row-none}
 use Rattle.strips.proofs.told_from.Goals as goal
 

@@ -3,7 +3,6 @@ use mathlib.Core.Path.{sym, ◌∙◌}
 use native.Mathlib.Omega.{arith}
 use lib.Ieee.{of_bits}
 use Rattle.text.proofs.FloatLaws.{low_field, no-digits, nan_pattern, nought-by-nought}
-use borrow.Author.Rules.{rules}
 use Rattle.text.proofs.float.Goals as goal
 
 pub float_from_bits-result : goal.float_from_bits-result

@@ -1,6 +1,5 @@
 -- `put_byte` writes a byte. Assumes nothing.
 use Rattle.text.proofs.WrittenLaws.{one}
-use borrow.Author.Rules.{rules}
 use Rattle.text.proofs.put_byte.Goals as goal
 
 pub returns : goal.returns

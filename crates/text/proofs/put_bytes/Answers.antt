@@ -1,9 +1,7 @@
 -- `put_bytes` writes two digits for each byte. Assumes nothing.
-use Prim.Native.Nat.{◌-◌}
 use native.Mathlib.Omega.{arith}
-use lib.ListN.{length}
 use borrow.Author.Rules.{rules}
-use Rattle.text.proofs.BytesLaws.{Spelling, starts, fits, goes_on, ends}
+use Rattle.text.proofs.BytesLaws.{starts, fits, goes_on, ends}
 use Rattle.text.proofs.HoldsLaws.{bytes-hold}
 use Rattle.text.proofs.put_bytes.Goals as goal
 

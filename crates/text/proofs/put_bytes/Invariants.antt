@@ -1,10 +1,7 @@
 -- What the loops of `put_bytes` keep, and what falls with each round. Assumes nothing.
 use Prim.Native.Nat.{◌-◌}
-use native.Mathlib.Omega.{arith}
 use lib.ListN.{length}
-use borrow.Author.Rules.{rules}
-use Rattle.text.proofs.BytesLaws.{Spelling, starts, fits, goes_on, ends}
-use Rattle.text.proofs.HoldsLaws.{bytes-hold}
+use Rattle.text.proofs.BytesLaws.{Spelling}
 use Rattle.text.proofs.put_bytes.Given as goal
 
 abbrev pub invariant-loop-i : goal.invariant-loop-i

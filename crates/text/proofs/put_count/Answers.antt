@@ -3,7 +3,6 @@ use native.Mathlib.Omega.{arith}
 use Rattle.text.specs.Parts.{count_text}
 use Rattle.text.proofs.HoldsLaws.{decimal-holds}
 use Rattle.text.proofs.WrittenLaws.{then}
-use borrow.Author.Rules.{rules}
 use Rattle.text.proofs.put_count.Goals as goal
 
 pub returns : goal.returns

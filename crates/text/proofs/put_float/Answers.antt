@@ -2,7 +2,6 @@
 use Rattle.text.specs.Parts.{float_text}
 use Rattle.text.proofs.FloatLaws.{equals_itself, nan-bits}
 use Rattle.text.proofs.HoldsLaws.{hex-holds, float-holds}
-use borrow.Author.Rules.{rules}
 use Rattle.text.proofs.put_float.Goals as goal
 
 pub float_to_bits-x : goal.float_to_bits-x

@@ -3,7 +3,6 @@ use native.Mathlib.Omega.{arith}
 use Rattle.text.specs.Parts.{refusal_text}
 use Rattle.text.proofs.HoldsLaws.{refusal-holds}
 use Rattle.text.proofs.WrittenLaws.{then}
-use borrow.Author.Rules.{rules}
 use Rattle.text.proofs.put_refusal.Goals as goal
 
 pub returns : goal.returns

@@ -7,7 +7,6 @@ use Rattle.integers.proofs.Tests.{lt_yes, lt_no}
 use Rattle.text.proofs.DigitLaws.{signed-negative, signed-else}
 use Rattle.text.proofs.HoldsLaws.{signed-holds}
 use Rattle.text.proofs.WrittenLaws.{then}
-use borrow.Author.Rules.{rules}
 use Rattle.text.proofs.put_signed.Goals as goal
 
 pub returns-then-x-lt0 : goal.returns-then-x-lt0

@@ -2,8 +2,6 @@
 use native.Mathlib.Omega.{arith}
 use Rattle.text.proofs.WrittenLaws.{copied}
 use Rattle.buffers.proofs.SpliceLaws.{lent}
-use borrow.Author.Rules.{rules}
-use Rattle.buffers.proofs.put_bytes.Reads as put-bytes-reads
 use Rattle.text.proofs.put_text.Goals as goal
 
 pub returns : goal.returns
