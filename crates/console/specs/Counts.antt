@@ -1,4 +1,4 @@
--- A count of bytes at the front of a buffer.
+-- No clause: a count of bytes at the front of a buffer. Assumes nothing.
 use Rattle.std.specs.Prelude.{◌≡◌, ℕ, ◌≤◌, List, length, take}
 
 -- `&xs[..n]` is in bounds and has n bytes. The second part follows from the first, and spares a caller's `&buffer[..n]` a proof file.

@@ -6,7 +6,7 @@ ghost use Rattle.std.specs.Prelude.{true, ◌≡◌, ◌+◌, ◌≤◌, ◌<◌
 ghost use Rattle.console.specs.Counts.{IsPrefixLen};
 
 use std::env::{Env, FillError};
-use std::io::{Error, Print, Read, Write};
+use std::io::{Error, ErrorKind, Print, Read, Write};
 
 // How many bytes were read before the end, or before a read that failed.
 #[derive(Clone, Copy)]
@@ -42,12 +42,14 @@ fn first(buffer: &[u8], count: usize) -> &[u8] {
     }
 }
 
-// On standard output. Answers whether all were written, and says it where not.
+// On standard output. Answers whether all were written, and says it where not. Of a pipe that nobody reads any more nothing is said.
 pub fn write(rt: HostRuntime, buffer: &[u8], count: usize) -> bool {
     match Print::write_all(&rt, first(buffer, count)) {
         Ok(()) => true,
         Err(error) => {
-            fail(rt, b"standard output", &error);
+            if !matches!(error.kind(), ErrorKind::BrokenPipe) {
+                fail(rt, b"standard output", &error);
+            }
             false
         }
     }
@@ -55,7 +57,11 @@ pub fn write(rt: HostRuntime, buffer: &[u8], count: usize) -> bool {
 
 // On standard error. Where that can't be written, nothing is left to say it on.
 pub fn complain(rt: HostRuntime, buffer: &[u8], count: usize) {
-    let _ = Print::write_all(&rt.stderr(), first(buffer, count));
+    say(rt, first(buffer, count));
+}
+
+fn say(rt: HostRuntime, text: &[u8]) {
+    let _ = Print::write_all(&rt.stderr(), text);
 }
 
 // Puts an error's text into a room, as much as it has room for, and answers how much that is.
@@ -83,11 +89,10 @@ fn words(text: &[u8]) -> &[u8] {
 pub fn fail(rt: HostRuntime, name: &[u8], error: &Error) {
     let mut room = [0u8; REASON_ROOM];
     let end = put_text(error, &mut room);
-    let reason = words(&room[..end]);
-    complain(rt, name, name.len());
-    complain(rt, b": ", 2);
-    complain(rt, reason, reason.len());
-    complain(rt, b"\n", 1);
+    say(rt, name);
+    say(rt, b": ");
+    say(rt, words(&room[..end]));
+    say(rt, b"\n");
 }
 
 fn least(a: usize, b: usize) -> usize

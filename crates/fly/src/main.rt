@@ -72,7 +72,7 @@ struct Opened {
 }
 
 // What stands before a chunk: the reader, how many fixes were flown, and the state after them.
-#[derive(Drop)]
+#[derive(Clone, Copy)]
 struct Before {
     reader: u32,
     flown: u64,
@@ -339,7 +339,6 @@ fn fly_next(rt: HostRuntime, before: Before, plan: &[u8], fixes: &mut File, name
     let mut space = [0u8; CHUNK_BYTES];
     let read = console::fill(rt, fixes, name, &mut space);
     let count = read.count;
-    let flown = before.flown;
     if read.failed {
         return Next {
             state: before.state,
@@ -350,7 +349,7 @@ fn fly_next(rt: HostRuntime, before: Before, plan: &[u8], fixes: &mut File, name
     if !next.goes_on {
         return next;
     }
-    tell_cut(rt, name, count, flown);
+    tell_cut(rt, name, count, before.flown);
     Next {
         state: next.state,
         goes_on: count == CHUNK_BYTES,
