@@ -42,7 +42,7 @@ farnkuppel=$root/host/target/release/farnkuppel
 if [ -x "$farnkuppel" ]; then
     echo "flight.sh: a second, and more where something has changed since the last run"
 else
-    echo "flight.sh: the first run proves and builds what it needs, about four minutes on two cores; later ones take a second"
+    echo "flight.sh: the first run proves and builds what it needs, some minutes; later ones take a second"
 fi
 "$root/tools/archives"
 [ -x "$farnkuppel" ] || echo "flight.sh: building the command farnkuppel, some seconds"

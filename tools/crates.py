@@ -1,4 +1,5 @@
-"""crates.txt: each crate with its group and the crates that it stands on. A line '# ---- NAME' begins a group."""
+"""crates.txt: each crate with its group and the crates that it stands on. A line '# ---- NAME' begins a group; what stands behind a crate's name, as
+`staticlib`, says how it is built."""
 import pathlib
 import re
 import sys
@@ -20,6 +21,6 @@ def read(path=ROOT / "crates.txt"):
         elif colon and not group:
             sys.exit(f"crates.txt: {name.strip()} stands in no group: a line '# ---- NAME' begins one")
         elif colon:
-            lines.append((name.strip(), group, on.split()))
+            lines.append((name.split()[0], group, on.split()))
     names = {name for name, _, _ in lines}
     return [Crate(name, group, [one for one in on if one in names]) for name, group, on in lines]

@@ -1,7 +1,7 @@
 #!/usr/bin/env python3
 """Compares the built programs with a folder of plan files and expected answers.
 
-usage: agree.py CORPUS BIN    (BIN: target/bin after `rt check`)
+usage: agree.py CORPUS BIN    (BIN: target/bin, by tools/programs)
 
 CORPUS holds plans/, listings/, loads.tsv, notes.tsv, writes.tsv, flights.tsv, and the flights of request 4 (tables.py). Prints a line for each
 file of answers and leaves with 1 where one differs, or where none was compared. The flights are flown twice: as they stand, and with STRAYS
