@@ -10,7 +10,9 @@ use Rattle.conditions.specs.Both.{both}
 use Rattle.conditions.proofs.ChooseLaws.{choose-true, choose-false}
 use Rattle.conditions.proofs.Bools.{by_bool, clash, both-on, both-off, both-off-second, both-last, both_first, both-second, both-swap, both-both}
 use Rattle.refusals.specs.Outcome.{Outcome, good, refused, and_then, refusal_of, is_good}
-use Rattle.refusals.specs.Sweep.{Done, done, sweep, every}
+use Rattle.std.proofs.Common.{Option, Some, None, Result, Ok, Err}
+use Rattle.refusals.specs.declared.Refusal.{Refusal}
+use Rattle.refusals.specs.Sweep.{Done, done, sweep, every, noted, answer_of}
 use Rattle.refusals.proofs.OutcomeLaws.{Proper, then-refusal}
 
 -- ---- from place i up to n
@@ -178,3 +180,31 @@ passing-next f sum x n i h false p q =
 -- and all of them
 pub passing-all : (f : ℕ → Bool) (sum n i : ℕ) → n ≤ i → passing f sum n i ≡ eqb sum 0
 passing-all f sum n i h = both-last (eqb sum 0) (every f (n - i) i) (every-stop f n i h)
+
+-- ---- a sweep whose checks answer an Option: what was answered of a place says whether it passes
+abbrev tag : Option ℕ → ℕ
+tag None = 0
+tag (Some n) = n + 1
+
+noted-tag : (m : ℕ) (r : Option ℕ) → r ≡ noted m → tag r ≡ tag (noted m)
+noted-tag m r h = ap tag h
+
+pub noted-none : (m : ℕ) → None ≡ noted m → m ≡ 0
+unfolding noted
+noted-none zero h = refl
+noted-none (suc m) h = let e : 0 ≡ suc m + 1 = noted-tag (suc m) None h in absurd (omega (arith, e))
+
+pub noted-some : (m n : ℕ) → Some n ≡ noted m → (n ≡ m) × (m ≡ 0 → ⊥)
+unfolding noted
+noted-some zero n h = let e : n + 1 ≡ 0 = noted-tag zero (Some n) h in absurd (omega (arith, e))
+noted-some (suc m) n h = let e : n + 1 ≡ suc m + 1 = noted-tag (suc m) (Some n) h in (omega (arith, e), λ z. omega (arith, z))
+
+module _ (f : ℕ → ℕ) (start end i : ℕ) {place : ℕ} (whole : sweep f (end - start) start ≡ sweep f (end - i) i) (at : place ≡ i) where
+  pub noted-hit : {n : ℕ} → i < end → Some n ≡ noted (f place) → Err (record { number = n; place = place + 1 }) ≡ answer_of (sweep f (end - start) start)
+  unfolding answer_of
+  noted-hit {n} b h =
+      let e = noted-some (f place) n h in
+      rw (whole ∙ sweep-hit f end i b (λ z. e.1 (ap f at ∙ z)), e.0, at)
+
+  pub noted-next : i < end → None ≡ noted (f place) → sweep f (end - start) start ≡ sweep f (end - (i + 1)) (i + 1)
+  noted-next b h = whole ∙ sweep-next f end i b (ap f (sym at) ∙ noted-none (f place) h)

@@ -1,7 +1,8 @@
 -- Clause 6.2: sweeps over places, from i on, k of them; the lowest that is refused stands. Assumes nothing.
-use Rattle.std.specs.Prelude.{Bool, true, ℕ, zero, suc, ◌+◌, eqb}
+use Rattle.std.specs.Prelude.{Bool, true, ℕ, zero, suc, ◌+◌, eqb, Option, Some, None, Result, Ok, Err}
 use Rattle.conditions.specs.Choose.{choose}
 use Rattle.conditions.specs.Both.{both}
+use Rattle.refusals.specs.declared.Refusal.{Refusal}
 use Rattle.refusals.specs.Outcome.{Outcome, good, refused}
 
 -- what a chain hands on that has no value
@@ -17,3 +18,13 @@ sweep number (suc k) i = choose (eqb (number i) 0) (sweep number k (i + 1)) (ref
 unfoldable pub every : (ℕ → Bool) → ℕ → ℕ → Bool
 every test zero i = true
 every test (suc k) i = both (test i) (every test k (i + 1))
+
+-- a number as the check of one place answers it: none where it passes
+unfoldable pub noted : ℕ → Option ℕ
+noted zero = None
+noted (suc n) = Some (suc n)
+
+-- an outcome that has no value, as functions answer it
+unfoldable pub answer_of : Outcome Done → Result Unit Refusal
+answer_of (good d) = Ok tt
+answer_of (refused number place) = Err (record { number = number; place = place })

@@ -2,10 +2,12 @@
 // The definitions have each number by the same name (specs/Numbers).
 #![tactic(auto)]
 
-ghost use Rattle.std.specs.Prelude.{◌≡◌, false};
+ghost use Rattle.std.specs.Prelude.{◌≡◌, false, Option, ℕ, ◌-◌, ◌≤◌, ◌<◌};
 ghost use Rattle.refusals.specs.Outcome.{good, check, refusal_of};
-ghost use Rattle.refusals.specs.Sweep.{done};
+ghost use Rattle.refusals.specs.Sweep.{done, sweep, noted, answer_of};
 ghost use Rattle.refusals.specs.Order.{Order};
+
+use std::ops::Range;
 
 // Fewer bytes than a header has.
 pub const FILE_TOO_SHORT: u8 = 1;
@@ -77,4 +79,20 @@ pub fn failed(number: u8) -> Refusal
     ensures order { Order }
 {
     Refusal { number, place: 0 }
+}
+
+// The first of the places that is refused, with the number that its check gives. Places are counted from 0 here and from 1 in a refusal.
+pub fn sweep<F: Fn(usize) -> Option<u8>>(places: Range<usize>, number_at: F) -> Result<(), Refusal>
+    requires { (i : ℕ) → places.start ≤ i → i < places.end → F.pre number_at i }
+    ensures { (f : ℕ → ℕ) → ((i : ℕ) (r : Option ℕ) → places.start ≤ i → i < places.end → F.post number_at i r → r ≡ noted (f i)) → result ≡ answer_of (sweep f (places.end - places.start) places.start) }
+{
+    for place in places {
+        if let Some(number) = number_at(place) {
+            return Err(Refusal {
+                number,
+                place: place + 1,
+            });
+        }
+    }
+    Ok(())
 }
