@@ -5,8 +5,8 @@ use native.Mathlib.Omega.{arith}
 use lib.Dec.{ltb}
 use borrow.Author.Tests.{le-ltb}
 use Rattle.conditions.proofs.ChooseLaws.{choose-false}
-use Rattle.refusals.specs.Outcome.{and_then, refusal_of}
-use Rattle.refusals.specs.Sweep.{Done}
+use Rattle.refusals.specs.Outcome.{good, and_then}
+use Rattle.refusals.specs.Sweep.{Done, done}
 use Rattle.plane.specs.declared.Point.{Point}
 use Rattle.plane.specs.Level.{level_leg_of, square_of}
 use Rattle.fillets.specs.Corners.{corner_turn, easy_turn, tangent_of}
@@ -17,7 +17,7 @@ use Rattle.plan.specs.Stands.{LongAt, EasyAt}
 use Rattle.plan.proofs.TangentNumberLaws.{tangent-none, easy-passes}
 use Rattle.plan.proofs.FilletLegLaws.{tangent-first, tangent-corner, tangent-last}
 use Rattle.plan.proofs.SweptLaws.{Swept, swept-start, swept-next, swept-stop}
-use Rattle.plan.proofs.RuleLaws.{same_number, corners-pass}
+use Rattle.plan.proofs.RuleLaws.{corners-pass}
 
 module _ (R n : ℕ) (at : ℕ → Point) (course : ℕ → ℕ) where
   abbrev pub least : ℕ
@@ -62,9 +62,9 @@ module _ (R n : ℕ) (at : ℕ → Point) (course : ℕ → ℕ) where
 
   -- at the last point, which is no corner
   pub easily-last : (i : ℕ) → Easily i → i + 1 ≡ n → LongAt least at i
-      → refusal_of (and_then (corners_of Fillets n at) (λ (_ : Done). legs_of Fillets R n at course)) ≡ record { number = 0; place = 0 }
+      → and_then (corners_of Fillets n at) (λ (_ : Done). legs_of Fillets R n at course) ≡ good done
   unfolding corners_of legs_of
   easily-last i e h long =
       let t = tangent-none R ∙ sym (tangent-last R n at i e.corners.low h) in
       let legs = swept-next e.legs (omega arith) (leg-passes i 0 e long (omega arith) t) refl in
-      ap refusal_of (corners-pass Fillets R n at course (same_number (swept-stop e.corners (omega arith)))) ∙ sym (swept-stop legs (omega arith))
+      corners-pass Fillets R n at course (swept-stop e.corners (omega arith)) ∙ swept-stop legs (omega arith)

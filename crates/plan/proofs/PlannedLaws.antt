@@ -11,7 +11,7 @@ use Rattle.plan.specs.declared.Head.{Head}
 use Rattle.plan.specs.declared.Plan.{Plan}
 use Rattle.plan.specs.Limits.{most_points}
 use Rattle.plan.specs.Places.{no_point, points_at, padded, block, plan_numbers, numbers_of, planned_in, Filled}
-use Rattle.plan.specs.Stands.{Long}
+use Rattle.plan.specs.Long.{Long}
 use Rattle.plan.proofs.BlockLaws.{padded-length, Blocks, block-joined, blocks_of, numbers-joined}
 use Rattle.plan.proofs.PlaceLaws.{padded_at}
 

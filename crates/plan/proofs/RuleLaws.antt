@@ -1,18 +1,17 @@
 -- Refusals 8 to 12 and 17: which one stands, that none has the number 0, and what a plan that passes says of its places. Assumes nothing.
-use mathlib.Core.Path.{◌≡◌, refl, sym, ap, ◌∙◌}
+use mathlib.Core.Path.{◌≡◌, refl, ap, ◌∙◌}
 use mathlib.Core.Bool.{Bool, true, false}
 use Prim.Native.Nat.{ℕ, ◌+◌, ◌-◌, ◌≤◌, ◌<◌}
 use native.Mathlib.Omega.{arith}
 use lib.Dec.{eqb, leb, ltb}
-use borrow.Author.Tests.{eqb-false, ltb-false, leb-true, le-leb, lt-leb}
+use borrow.Author.Tests.{ltb-false, leb-true, le-leb, lt-leb}
 use Rattle.conditions.specs.Choose.{choose}
 use Rattle.conditions.proofs.Bools.{clash}
 use Rattle.refusals.specs.Numbers.{point_count, course_count}
-use Rattle.refusals.specs.declared.Refusal.{Refusal}
 use Rattle.refusals.specs.Outcome.{Outcome, good, refused, check, and_then, refusal_of, is_good}
 use Rattle.refusals.specs.Sweep.{Done, done}
-use Rattle.refusals.proofs.OutcomeLaws.{Proper, check-true, check-false, check-first, check-rest, then-good, then-refused, good-first, proper-check, proper-then}
-use Rattle.refusals.proofs.SweepLaws.{sweep-means, sweep-zeros, sweep-done, good-is, proper-sweep}
+use Rattle.refusals.proofs.OutcomeLaws.{Proper, check-true, check-false, check-first, check-rest, then-good, then-stops, good-first, proper-check, proper-then}
+use Rattle.refusals.proofs.SweepLaws.{sweep-means, sweep-zeros, good-is, proper-sweep}
 use Rattle.plane.specs.declared.Point.{Point}
 use Rattle.plane.specs.Level.{level_leg_of, vector_length}
 use Rattle.fillets.specs.Corners.{corner_turn}
@@ -69,20 +68,21 @@ dubins-corners : (n : ℕ) (at : ℕ → Point) → corners_of Dubins n at ≡ g
 unfolding corners_of corner_number
 dubins-corners n at = sweep-zeros (corner_at Dubins at) (λ j. refl) (n - 1 - 1) 1
 
--- the number of an answer of the code
-pub same_number : {r s : Refusal} → r ≡ s → s.number ≡ r.number
-same_number e = sym (ap (λ (r : Refusal). r.number) e)
-
 -- ---- pairs, corners, legs
 then-rest : (o : Outcome Done) (g : Done → Outcome Done) → is_good (and_then o g) ≡ true → is_good (g done) ≡ true
 unfolding is_good and_then
 then-rest (good done) g h = h
 then-rest (refused n p) g h = clash false h refl
 
+then-bad : (o : Outcome Done) (g : Done → Outcome Done) → is_good o ≡ false → and_then o g ≡ o
+unfolding is_good and_then
+then-bad (good d) g h = clash true refl h
+then-bad (refused n p) g h = refl
+
 module _ (mode : Mode) (R n : ℕ) (at : ℕ → Point) (course : ℕ → ℕ) where
-  pub geometry-pairs : is_good (pairs_of n at) ≡ false → refusal_of (geometry_on mode R n at course) ≡ refusal_of (pairs_of n at)
-  unfolding geometry_on pairs_of
-  geometry-pairs h = then-refused _ _ (eqb-false _ 0 (sym (proper-sweep (pair_at at) (n - 1) 1) ∙ h))
+  pub geometry-pairs : is_good (pairs_of n at) ≡ false → geometry_on mode R n at course ≡ pairs_of n at
+  unfolding geometry_on
+  geometry-pairs h = then-bad (pairs_of n at) _ h
 
   pub geometry-rest : is_good (pairs_of n at) ≡ true
       → geometry_on mode R n at course ≡ and_then (corners_of mode n at) (λ (_ : Done). legs_of mode R n at course)
@@ -90,14 +90,13 @@ module _ (mode : Mode) (R n : ℕ) (at : ℕ → Point) (course : ℕ → ℕ) w
   geometry-rest h = then-good _ done _ (good-is (pairs_of n at) h)
 
   -- a corner is refused, or the legs are asked
-  pub corners-refuse : (r : Refusal) → r ≡ refusal_of (corners_of mode n at) → (r.number ≡ 0 → ⊥)
-      → r ≡ refusal_of (and_then (corners_of mode n at) (λ (_ : Done). legs_of mode R n at course))
-  corners-refuse r e h = e ∙ sym (then-refused _ _ (λ z. h (sym (same_number e) ∙ z)))
+  pub corners-refuse : (k p : ℕ) → corners_of mode n at ≡ refused k p
+      → and_then (corners_of mode n at) (λ (_ : Done). legs_of mode R n at course) ≡ refused k p
+  corners-refuse k p e = then-stops _ k p _ e
 
-  pub corners-pass : (refusal_of (corners_of mode n at)).number ≡ 0
+  pub corners-pass : corners_of mode n at ≡ good done
       → and_then (corners_of mode n at) (λ (_ : Done). legs_of mode R n at course) ≡ legs_of mode R n at course
-  unfolding corners_of
-  corners-pass h = then-good _ done _ (sweep-done (corner_at mode at) (n - 1 - 1) 1 h)
+  corners-pass e = then-good _ done _ e
 
   proper-geometry : Proper (geometry_on mode R n at course)
   unfolding geometry_on pairs_of corners_of legs_of
@@ -106,21 +105,21 @@ module _ (mode : Mode) (R n : ℕ) (at : ℕ → Point) (course : ℕ → ℕ) w
       (λ (_ : Done). proper-then _ _ (proper-sweep (corner_at mode at) (n - 1 - 1) 1) (λ (_ : Done). proper-sweep (leg_number mode R n at course) (n - 1) 1))
 
 -- by the mode: of lines the corners alone, of a Dubins plan the legs alone
-then-done : (o q : Outcome Done) → q ≡ good done → refusal_of (and_then o (λ (_ : Done). q)) ≡ refusal_of o
-unfolding and_then refusal_of
-then-done (good done) q h = ap refusal_of h
+then-done : (o q : Outcome Done) → q ≡ good done → and_then o (λ (_ : Done). q) ≡ o
+unfolding and_then
+then-done (good done) q h = h
 then-done (refused n p) q h = refl
 
 module _ (R n : ℕ) (at : ℕ → Point) (course : ℕ → ℕ) where
-  pub line-rest : refusal_of (and_then (corners_of Lines n at) (λ (_ : Done). legs_of Lines R n at course)) ≡ refusal_of (corners_of Lines n at)
+  pub line-rest : and_then (corners_of Lines n at) (λ (_ : Done). legs_of Lines R n at course) ≡ corners_of Lines n at
   line-rest = then-done (corners_of Lines n at) (legs_of Lines R n at course) (line-legs R n at course)
 
-  pub dubins-rest : refusal_of (and_then (corners_of Dubins n at) (λ (_ : Done). legs_of Dubins R n at course)) ≡ refusal_of (legs_of Dubins R n at course)
-  dubins-rest = ap refusal_of (then-good _ done _ (dubins-corners n at))
+  pub dubins-rest : and_then (corners_of Dubins n at) (λ (_ : Done). legs_of Dubins R n at course) ≡ legs_of Dubins R n at course
+  dubins-rest = then-good _ done _ (dubins-corners n at)
 
 -- the legs of fillets have no courses
 pub fillet-rest : (R n : ℕ) (at : ℕ → Point) (course other : ℕ → ℕ)
-    → refusal_of (and_then (corners_of Fillets n at) (λ (_ : Done). legs_of Fillets R n at course)) ≡ refusal_of (and_then (corners_of Fillets n at) (λ (_ : Done). legs_of Fillets R n at other))
+    → and_then (corners_of Fillets n at) (λ (_ : Done). legs_of Fillets R n at course) ≡ and_then (corners_of Fillets n at) (λ (_ : Done). legs_of Fillets R n at other)
 unfolding legs_of leg_number
 fillet-rest R n at course other = refl
 

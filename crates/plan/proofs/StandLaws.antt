@@ -1,5 +1,5 @@
 -- Refusal 14's part on the plan: the tests of a plan that stands, and what they give whoever flies it. Assumes nothing.
-use mathlib.Core.Path.{◌≡◌, sym, ap, ◌∙◌, subst}
+use mathlib.Core.Path.{◌≡◌, ap, ◌∙◌, subst}
 use mathlib.Core.Bool.{Bool, true, false, not}
 use mathlib.Core.List.{List}
 use Prim.Native.Nat.{ℕ, ◌+◌, ◌-◌, ◌≤◌, ◌<◌}
@@ -10,8 +10,7 @@ use borrow.Author.Tests.{eqb-false, leb-true, le-leb, ne_eqb, not-true}
 use Rattle.conditions.specs.Choose.{choose}
 use Rattle.conditions.specs.Both.{both}
 use Rattle.conditions.proofs.Bools.{by_bool, both-on, both_first, both-second}
-use Rattle.refusals.specs.declared.Refusal.{Refusal}
-use Rattle.refusals.specs.Outcome.{refusal_of, is_good}
+use Rattle.refusals.specs.Outcome.{is_good}
 use Rattle.refusals.specs.Sweep.{every}
 use Rattle.refusals.proofs.SweepLaws.{every-means, every-same, every-both, every-change}
 use Rattle.plane.specs.declared.Point.{Point}
@@ -23,9 +22,10 @@ use Rattle.plan.specs.declared.Plan.{Plan}
 use Rattle.plan.specs.Limits.{fewest_points, most_points, most_level, most_down, most_radius, full_circle, signed_between, number_fits, radius_fits}
 use Rattle.plan.specs.Places.{number_at, place_at, plan_point, plan_course}
 use Rattle.plan.specs.Rules.{mode_of, tangent_at, corners_of, legs_of}
-use Rattle.plan.specs.Stands.{given_of, point_fits, course_fits, values_fit, place_fits, places_fit, rules_of, stands_of, Ranged, Aimed, IsCourse, Placed, Aiming, Long, ByMode, Stands}
+use Rattle.plan.specs.Stands.{given_of, point_fits, course_fits, values_fit, place_fits, places_fit, rules_of, stands_of, Ranged, Aimed, IsCourse, Placed, Aiming, ByMode, Stands}
+use Rattle.plan.specs.Long.{Long}
 use Rattle.plan.proofs.LimitLaws.{area-means, zero-area, course-means, point-numbers, arc-least, radius-most}
-use Rattle.plan.proofs.RuleLaws.{corner-turns, leg-paths, leg-lengths, rules-proper, rules-passed}
+use Rattle.plan.proofs.RuleLaws.{corner-turns, leg-paths, leg-lengths, rules-passed}
 
 -- ---- places
 point-area : (used : Bool) (p : Point) → point_fits used p ≡ true → InArea p
@@ -117,17 +117,10 @@ pub record Tests (p : Plan) : Type 0 where
   pub rules : is_good (rules_of p (given_of p.head.mode p.head.count)) ≡ true
 
 module _ (p : Plan) where
-  stands-rules : (p.head.serial ≡ 0 → ⊥) → p.head.count ≤ most_points → radius_fits p.head.mode p.head.radius ≡ true → places_fit p ≡ true
+  pub stands-rules : (p.head.serial ≡ 0 → ⊥) → p.head.count ≤ most_points → radius_fits p.head.mode p.head.radius ≡ true → places_fit p ≡ true
       → stands_of p ≡ is_good (rules_of p (given_of p.head.mode p.head.count))
   unfolding stands_of
   stands-rules s m r h = both-on _ _ (ap not (ne_eqb p.head.serial 0 s)) ∙ both-on _ _ (le-leb p.head.count most_points m) ∙ both-on _ _ r ∙ both-on _ _ h
-
-  -- from what the rules have answered
-  pub stands-found : (p.head.serial ≡ 0 → ⊥) → p.head.count ≤ most_points → radius_fits p.head.mode p.head.radius ≡ true → places_fit p ≡ true
-      → (r : Refusal) → r ≡ refusal_of (rules_of p (given_of p.head.mode p.head.count)) → eqb r.number 0 ≡ stands_of p
-  stands-found s m t h r e =
-      ap (λ (x : Refusal). eqb x.number 0) e
-      ∙ sym (stands-rules s m t h ∙ rules-proper p.head.mode p.head.radius (given_of p.head.mode p.head.count) p.head.count (plan_point p) (plan_course p))
 
   pub tests-stand : Tests p → stands_of p ≡ true
   tests-stand t = stands-rules t.serial t.most t.radius t.places ∙ t.rules

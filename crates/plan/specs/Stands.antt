@@ -117,13 +117,6 @@ pub record Fit (R n : ℕ) (norths easts downs courses : List ℤ) : Type 0 wher
   pub radius : R ≤ most_radius
   pub aimed : (i : ℕ) → i < n → Aiming courses i
 
--- all places are there
-pub record Long (norths easts downs courses : List ℤ) : Type 0 where
-  pub north : most_points ≤ length norths
-  pub east : most_points ≤ length easts
-  pub down : most_points ≤ length downs
-  pub course : most_points ≤ length courses
-
 -- fillets: each corner's turn; Dubins: each course, and a case for each leg
 abbrev pub ByMode : Mode → Plan → Type 0
 ByMode Lines p = Unit {0}

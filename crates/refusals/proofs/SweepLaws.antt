@@ -11,9 +11,11 @@ use Rattle.conditions.proofs.ChooseLaws.{choose-true, choose-false}
 use Rattle.conditions.proofs.Bools.{by_bool, clash, both-on, both-off, both-off-second, both-last, both_first, both-second, both-swap, both-both}
 use Rattle.refusals.specs.Outcome.{Outcome, good, refused, and_then, refusal_of, is_good}
 use Rattle.std.proofs.Common.{Option, Some, None, Result, Ok, Err}
+use Rattle.std.specs.Option.{is_some}
+use Rattle.std.specs.Result.{is_ok}
 use Rattle.refusals.specs.declared.Refusal.{Refusal}
-use Rattle.refusals.specs.Sweep.{Done, done, sweep, every, noted, answer_of}
-use Rattle.refusals.proofs.OutcomeLaws.{Proper, then-refusal}
+use Rattle.refusals.specs.Sweep.{Done, done, sweep, every, noted, answer_of, unless_found}
+use Rattle.refusals.proofs.OutcomeLaws.{Proper}
 
 -- ---- from place i up to n
 module _ (f : ℕ → ℕ) (n i : ℕ) where
@@ -159,9 +161,13 @@ sweep-more f (suc k) i =
     ∙ choose-then (eqb (f i) 0) (sweep f k (i + 1)) (f i) (i + 1) (sweep f 1 (i + 1 + k))
     ∙ ap (λ (j : ℕ). and_then (sweep f (suc k) i) (λ (_ : Done). sweep f 1 j)) e
 
-pub sweep-grown : (f : ℕ → ℕ) (k i : ℕ)
-    → refusal_of (sweep f (suc k) i) ≡ choose (eqb (refusal_of (sweep f k i)).number 0) (refusal_of (sweep f 1 (i + k))) (refusal_of (sweep f k i))
-sweep-grown f k i = ap refusal_of (sweep-more f k i) ∙ then-refusal (sweep f k i) (sweep f 1 (i + k)) (proper-sweep f k i)
+then-answer : (o q : Outcome Done) → answer_of (and_then o (λ (_ : Done). q)) ≡ unless_found (answer_of o) (answer_of q)
+unfolding and_then answer_of unless_found
+then-answer (good d) q = refl
+then-answer (refused n p) q = refl
+
+pub sweep-grown : (f : ℕ → ℕ) (k i : ℕ) → answer_of (sweep f (suc k) i) ≡ unless_found (answer_of (sweep f k i)) (answer_of (sweep f 1 (i + k)))
+sweep-grown f k i = ap answer_of (sweep-more f k i) ∙ then-answer (sweep f k i) (sweep f 1 (i + k))
 
 -- ---- a sweep with no way out, which sums what does not pass: the sum so far is 0, and every place that is left passes
 abbrev pub passing : (ℕ → Bool) → ℕ → ℕ → ℕ → Bool
@@ -208,3 +214,19 @@ module _ (f : ℕ → ℕ) (start end i : ℕ) {place : ℕ} (whole : sweep f (e
 
   pub noted-next : i < end → None ≡ noted (f place) → sweep f (end - start) start ≡ sweep f (end - (i + 1)) (i + 1)
   noted-next b h = whole ∙ sweep-next f end i b (ap f (sym at) ∙ noted-none (f place) h)
+
+-- whether a place passes, by whether its check answers a number
+pub noted-apart : (m : ℕ) → is_some (noted m) ≡ true → eqb m 0 ≡ false
+unfolding noted
+noted-apart zero h = clash false h refl
+noted-apart (suc m) h = ne_eqb (suc m) 0 (λ z. omega (arith, z))
+
+pub noted-passes : (m : ℕ) → is_some (noted m) ≡ false → eqb m 0 ≡ true
+unfolding noted
+noted-passes zero h = refl
+noted-passes (suc m) h = clash true refl h
+
+pub answer-good : (o : Outcome Done) → is_ok (answer_of o) ≡ is_good o
+unfolding answer_of is_good
+answer-good (good d) = refl
+answer-good (refused n p) = refl

@@ -28,3 +28,8 @@ noted (suc n) = Some (suc n)
 unfoldable pub answer_of : Outcome Done → Result Unit Refusal
 answer_of (good d) = Ok tt
 answer_of (refused number place) = Err (record { number = number; place = place })
+
+-- the next answer, unless something was found before
+unfoldable pub unless_found : Result Unit Refusal → Result Unit Refusal → Result Unit Refusal
+unless_found (Ok u) next = next
+unless_found (Err refusal) next = Err refusal

@@ -1,6 +1,7 @@
 -- `line_corner_number` gives refusal 11 of a corner between lines. Assumes nothing.
 use mathlib.Core.Path.{◌≡◌, sym, ◌∙◌}
 use Rattle.conditions.specs.Choose.{choose}
+use Rattle.refusals.specs.Sweep.{noted}
 use Rattle.plane.specs.Area.{leg_of}
 use Rattle.plane.specs.Half.{opposite_of}
 use Rattle.plan.specs.Rules.{corner_number}
@@ -12,9 +13,9 @@ opposed : (c : After-opposite)
 opposed c = c.opposite.ensures ∙ (λ i. opposite_of (c.leg_between.ensures.0 i) (c.leg_between-2.ensures.0 i))
 
 pub returns-then-opposite : goal.returns-then-opposite
-unfolding corner_number choose
+unfolding corner_number choose noted
 returns-then-opposite c = rw (sym (opposed (goal.at.returns-then-opposite c).After-opposite) ∙ c.if-opposite.true)
 
-pub returns-else-opposite : goal.returns-else-opposite
-unfolding corner_number choose
-returns-else-opposite c = rw (sym (opposed (goal.at.returns-else-opposite c).After-opposite) ∙ c.if-opposite.false)
+pub returns : goal.returns
+unfolding corner_number choose noted
+returns c = rw (sym (opposed (goal.at.returns c).After-opposite) ∙ c.if-opposite.false)

@@ -11,8 +11,9 @@ returns-then-values_between c =
     c.values_between-then-values_between.ensures
     ∙ sym (number-parts s.values.now s.used s.low s.high c.requires.0 ∙ both-on _ _ used)
 
-pub returns : goal.returns
-returns c =
+pub returns-else-values_between : goal.returns-else-values_between
+returns-else-values_between c =
     let s = c.args in
     let used = sym c.values_between.ensures ∙ c.if-values_between.false in
-    sym (number-parts s.values.now s.used s.low s.high c.requires.0 ∙ both-off _ _ used)
+    c.if-values_between.false
+    ∙ sym (number-parts s.values.now s.used s.low s.high c.requires.0 ∙ both-off _ _ used)

@@ -7,7 +7,6 @@ use lib.IntN.{pos, neg_ℤ}
 use lib.Signed.{le_z}
 use Rattle.conditions.specs.Both.{both}
 use Rattle.conditions.proofs.Bools.{both-on, both-off}
-use Rattle.integers.proofs.BoundLaws.{overflow}
 use Rattle.integers.proofs.ValueLaws.{tested, typed}
 use Rattle.plan.specs.Limits.{signed_between}
 use Rattle.plan.proofs.signed_between.Goals as goal
@@ -20,27 +19,20 @@ read p y e = sym e ∙ p
 last : {r : Bool} (a b : Bool) → a ≡ true → r ≡ b → r ≡ both a b
 last a b t e = e ∙ sym (both-on a b t)
 
-pub overflow_cast-wide : goal.overflow_cast-wide
-overflow_cast-wide c = search (overflow, typed) depth 20 fits 5000
-
-pub overflow_sub-low : goal.overflow_sub-low
-overflow_sub-low c =
-    let l : c.args.low ≤ 4294967295 = omega arith in
-    search (overflow, typed) depth 20 fits 5000
-
-pub returns-then-low-wide : goal.returns-then-low-wide
+pub returns-then-from-wide : goal.returns-then-from-wide
 unfolding signed_between
-returns-then-low-wide c =
+returns-then-from-wide c =
     let s = c.args in
     let l : s.low ≤ 4294967295 = omega arith in
     let h : s.high ≤ 4294967295 = omega arith in
     let low = le_z (neg_ℤ (pos s.low)) s.z in
-    last low (le_z s.z (pos s.high)) (read c.if-low-wide.true low (search (tested, typed) depth 20 fits 5000)) (search (tested, typed) depth 20 fits 5000)
+    last low (le_z s.z (pos s.high)) (read c.if-from-wide.true low (search (tested, typed, c.from.ensures, c.from-wide.ensures) depth 20 fits 5000)) (search (tested, typed, c.from-then-from-wide.ensures, c.from-wide.ensures) depth 20 fits 5000)
 
-pub returns : goal.returns
+pub returns-else-from-wide : goal.returns-else-from-wide
 unfolding signed_between
-returns c =
+returns-else-from-wide c =
     let s = c.args in
     let l : s.low ≤ 4294967295 = omega arith in
     let low = le_z (neg_ℤ (pos s.low)) s.z in
-    sym (both-off low (le_z s.z (pos s.high)) (read c.if-low-wide.false low (search (tested, typed) depth 20 fits 5000)))
+    c.if-from-wide.false
+    ∙ sym (both-off low (le_z s.z (pos s.high)) (read c.if-from-wide.false low (search (tested, typed, c.from.ensures, c.from-wide.ensures) depth 20 fits 5000)))

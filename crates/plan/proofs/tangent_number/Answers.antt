@@ -1,6 +1,8 @@
 -- `tangent_number` gives refusal 12 of a leg between two fillets, from squares. Assumes nothing.
+use mathlib.Core.Path.{ap}
 use native.Mathlib.Nat.{mul-le-mul}
 use native.Mathlib.Omega.{arith}
+use Rattle.refusals.specs.Sweep.{noted}
 use Rattle.plan.proofs.TangentNumberLaws.{leg-passes, leg-short}
 use Rattle.plan.proofs.tangent_number.Goals as goal
 
@@ -8,7 +10,9 @@ pub overflow_mul-tangents : goal.overflow_mul-tangents
 overflow_mul-tangents c = let h = c.requires in omega (arith, mul-le-mul h h)
 
 pub returns-then-tangents-squared : goal.returns-then-tangents-squared
-returns-then-tangents-squared c = let s = c.args in λ a b e. leg-passes a b s.squared s.tangents e c.if-tangents-squared.true
+unfolding noted
+returns-then-tangents-squared c = let s = c.args in λ a b e. ap noted (leg-passes a b s.squared s.tangents e c.if-tangents-squared.true)
 
-pub returns-else-tangents-squared : goal.returns-else-tangents-squared
-returns-else-tangents-squared c = let s = c.args in λ a b e. leg-short a b s.squared s.tangents e c.if-tangents-squared.false
+pub returns : goal.returns
+unfolding noted
+returns c = let s = c.args in λ a b e. ap noted (leg-short a b s.squared s.tangents e c.if-tangents-squared.false)

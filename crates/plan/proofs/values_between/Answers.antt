@@ -23,12 +23,6 @@ loop-i-init c = (omega arith, sym (both-on _ _ refl))
 pub overflow_add-over : goal.overflow_add-over
 overflow_add-over c = omega arith
 
-pub overflow_add-i : goal.overflow_add-i
-overflow_add-i c = omega arith
-
-pub loop-i-smaller : goal.loop-i-smaller
-loop-i-smaller c = omega arith
-
 pub loop-i-preserved : goal.loop-i-preserved
 loop-i-preserved c =
     let s = c.args in

@@ -1,4 +1,4 @@
--- What the loops of `values_between` keep, and what falls with each round. Assumes nothing.
+-- What the loop of `values_between` keeps: none is over so far exactly where all so far lie between the limits. Assumes nothing.
 use mathlib.Core.Path.{◌≡◌}
 use mathlib.Core.Bool.{Bool}
 use mathlib.Core.List.{List}
@@ -15,6 +15,3 @@ fits values low high i = signed_between low high (number_at values i)
 
 abbrev pub invariant-loop-i : goal.invariant-loop-i
 invariant-loop-i l = (l.over ≤ l.i) × (every (fits l.values l.low l.high) (l.to - l.from) l.from ≡ passing (fits l.values l.low l.high) l.over l.to l.i)
-
-abbrev pub decreases-loop-i : goal.decreases-loop-i
-decreases-loop-i l = l.to - l.i
