@@ -5,7 +5,8 @@ use Rattle.plane.specs.declared.Point.{Point}
 use Rattle.plan.specs.declared.Plan.{Plan}
 use Rattle.plan.specs.Limits.{most_points}
 use Rattle.plan.specs.Places.{plan_point, plan_course}
-use Rattle.plan.specs.Stands.{given_of, Aimed, Long}
+use Rattle.plan.specs.Stands.{given_of, Aimed}
+use Rattle.plan.specs.Long.{Long}
 use Rattle.records.specs.Numbers.{u16_bytes, u32_bytes}
 use Rattle.records.specs.Walk.{Walked, end, more, flat}
 use Rattle.records.specs.Kinds.{point_row, radius_row, course_row, point_bytes}

@@ -3,8 +3,8 @@
 
 ghost use Rattle.std.specs.Prelude.{◌≡◌, List, [], ◌∷◌, ℕ, ◌+◌, ◌≤◌, ◌<◌, ℤ, length};
 ghost use Rattle.plan.specs.Limits.{most_points};
-ghost use Rattle.plan.specs.Places.{place_at, course_at, seen};
-ghost use Rattle.plan.specs.Stands.{There, Aiming};
+ghost use Rattle.plan.specs.Places.{plan_point, plan_course, seen};
+ghost use Rattle.plan.specs.Lent.{lent_plan, PointThere, CourseThere};
 ghost use Rattle.records.specs.Numbers.{u16_bytes, u32_bytes};
 ghost use Rattle.records.specs.Gather.{header_length};
 ghost use Rattle.records.specs.Walk.{flat};
@@ -14,8 +14,7 @@ ghost use Rattle.writer.specs.Facts.{FileFacts};
 ghost use Rattle.writer.specs.File.{plan_records, file_of, Writable};
 ghost use Rattle.writer.specs.Pieces.{mark, header_bytes, record_bytes, radius_bytes, place_bytes, places_bytes};
 
-use integers::{ONE_BYTE, TWO_BYTES};
-use plan::Head;
+use plan::{Head, Lent};
 use plane::Point;
 use records::{
     AREA_OFFSET, BODY_OFFSET, COURSE_ROW, DOWN_OFFSET, EAST_OFFSET, HEADER_LENGTH, MARK, POINT_ROW,
@@ -33,16 +32,12 @@ const RADIUS_RECORD: usize = BODY_OFFSET + RADIUS_ROW.high;
 
 const COURSE_RECORD: usize = BODY_OFFSET + COURSE_ROW.high;
 
-// Where the lower half of a number of four bytes stands.
-const LOWER: usize = 2;
-
 // A number as two bytes, big-endian, at the front of a part.
 fn put_u16(value: u16, part: &mut [u8])
     requires { 2 ≤ length part.old }
     ensures { part.new ≡ over (u16_bytes value) part.old }
 {
-    part[0] = (value / ONE_BYTE) as u8;
-    part[1] = (value % ONE_BYTE) as u8;
+    buffers::put_bytes(&value.to_be_bytes(), part);
 }
 
 // A number as four bytes.
@@ -50,8 +45,7 @@ fn put_u32(value: u32, part: &mut [u8])
     requires { 4 ≤ length part.old }
     ensures { part.new ≡ over (u32_bytes value) part.old }
 {
-    put_u16((value / TWO_BYTES) as u16, part);
-    put_u16((value % TWO_BYTES) as u16, &mut part[LOWER..]);
+    buffers::put_bytes(&value.to_be_bytes(), part);
 }
 
 // The body of a point.
@@ -69,9 +63,7 @@ fn put_mark(file: &mut [u8])
     requires { 3 ≤ length file.old }
     ensures { file.new ≡ over mark file.old }
 {
-    file[0] = MARK[0];
-    file[1] = MARK[1];
-    file[2] = MARK[2];
+    buffers::put_bytes(&MARK, file);
 }
 
 // The header before an area of so many bytes.
@@ -104,7 +96,8 @@ fn put_point_record(point: Point, at: usize, file: &mut [u8])
     put_point(point, &mut file[body..]);
 }
 
-// The record of a kind that has a value of two bytes.
+// The record of a kind that has a value of two bytes. It is no one function with that of a point: what writes the body would be a closure, with a
+// contract of its own to give at each call, which is no plainer.
 fn put_value_record(kind: u8, value: u16, at: usize, file: &mut [u8])
     requires { at + 4 ≤ length file.old }
     ensures { file.new ≡ splice at (record_bytes kind (u16_bytes value)) file.old }
@@ -143,45 +136,25 @@ fn put_place(point: Point, aimed: bool, course: u16, at: usize, file: &mut [u8])
 }
 
 // The point at place i, and its course if it has one. The answer is the offset behind them.
-fn put_place_at<'a>(
-    norths: &'a [i32],
-    easts: &'a [i32],
-    downs: &'a [i32],
-    courses: &'a [i32],
-    i: usize,
-    aimed: bool,
-    at: usize,
-    file: &mut [u8],
-) -> usize
-    requires { (There norths.now easts.now downs.now i × Aiming courses.now i) × (at + length (place_bytes aimed (place_at norths.now easts.now downs.now i) (course_at courses.now i)) ≤ length file.old) }
-    ensures file_after { file.new ≡ splice at (place_bytes aimed (place_at norths.now easts.now downs.now i) (course_at courses.now i)) file.old }
-    ensures value { result ≡ at + length (place_bytes aimed (place_at norths.now easts.now downs.now i) (course_at courses.now i)) }
+fn put_place_at(plan: &Lent, i: usize, aimed: bool, at: usize, file: &mut [u8]) -> usize
+    requires { (PointThere (lent_plan plan.now) i × CourseThere (lent_plan plan.now) i) × (at + length (place_bytes aimed (plan_point (lent_plan plan.now) i) (plan_course (lent_plan plan.now) i)) ≤ length file.old) }
+    ensures file_after { file.new ≡ splice at (place_bytes aimed (plan_point (lent_plan plan.now) i) (plan_course (lent_plan plan.now) i)) file.old }
+    ensures value { result ≡ at + length (place_bytes aimed (plan_point (lent_plan plan.now) i) (plan_course (lent_plan plan.now) i)) }
 {
-    let point = plan::point_at(norths, easts, downs, i);
-    let course = plan::course_at(courses, i);
+    let point = plan.point_at(i);
+    let course = plan.course_at(i);
     put_place(point, aimed, course as u16, at, file)
 }
 
 // All points of a plan, each with its course behind it where there is one.
-fn put_places<'a>(
-    head: Head,
-    norths: &'a [i32],
-    easts: &'a [i32],
-    downs: &'a [i32],
-    courses: &'a [i32],
-    from: usize,
-    file: &mut [u8],
-)
-    requires { Writable (seen head norths.now easts.now downs.now courses.now) × (from + length (places_bytes (seen head norths.now easts.now downs.now courses.now)) ≤ length file.old) }
-    ensures { file.new ≡ splice from (places_bytes (seen head norths.now easts.now downs.now courses.now)) file.old }
+fn put_places(plan: &Lent, from: usize, file: &mut [u8])
+    requires { Writable (lent_plan plan.now) × (from + length (places_bytes (lent_plan plan.now)) ≤ length file.old) }
+    ensures { file.new ≡ splice from (places_bytes (lent_plan plan.now)) file.old }
 {
-    let mode = head.mode;
-    let given = plan::given_of(mode, head.count);
+    let given = plan::given_of(plan.head.mode, plan.head.count);
     let mut at = from;
-    let mut i: usize = 0;
-    while i < head.count {
-        at = put_place_at(norths, easts, downs, courses, i, i < given, at, file);
-        i += 1;
+    for i in 0..plan.head.count {
+        at = put_place_at(plan, i, i < given, at, file);
     }
 }
 
@@ -200,9 +173,8 @@ fn area_length(head: Head) -> usize
     requires { head.count ≤ most_points }
     ensures { ((ns es ds cs : List ℤ) → result ≡ length (flat (plan_records (seen head ns es ds cs)))) × (result < 65536) }
 {
-    let mode = head.mode;
-    let count = head.count;
-    radius_length(head.radius) + POINT_RECORD * count + COURSE_RECORD * plan::given_of(mode, count)
+    let given = plan::given_of(head.mode, head.count);
+    radius_length(head.radius) + POINT_RECORD * head.count + COURSE_RECORD * given
 }
 
 // How many bytes the file of a plan has, at any version and wherever its points lie.
@@ -214,20 +186,13 @@ pub fn file_length(head: Head) -> usize
 }
 
 // The file of a plan at a version, into the first bytes of a buffer. Nothing else of it changes.
-pub fn put_plan<'a>(
-    head: Head,
-    norths: &'a [i32],
-    easts: &'a [i32],
-    downs: &'a [i32],
-    courses: &'a [i32],
-    version: u16,
-    file: &mut [u8],
-)
-    requires { Writable (seen head norths.now easts.now downs.now courses.now) × (length (file_of version (seen head norths.now easts.now downs.now courses.now)) ≤ length file.old) }
-    ensures file_after { file.new ≡ over (file_of version (seen head norths.now easts.now downs.now courses.now)) file.old }
+pub fn put_plan(plan: &Lent, version: u16, file: &mut [u8])
+    requires { Writable (lent_plan plan.now) × (length (file_of version (lent_plan plan.now)) ≤ length file.old) }
+    ensures file_after { file.new ≡ over (file_of version (lent_plan plan.now)) file.old }
     ensures file_facts { FileFacts }
 {
-    put_header(version, head.serial, area_length(head) as u16, file);
-    let at = put_radius(head.radius, file);
-    put_places(head, norths, easts, downs, courses, at, file);
+    let size = area_length(plan.head) as u16;
+    put_header(version, plan.head.serial, size, file);
+    let at = put_radius(plan.head.radius, file);
+    put_places(plan, at, file);
 }
