@@ -1,8 +1,8 @@
 -- The pieces that the file of a plan is written in: their lengths, and that together they are the file. Assumes nothing.
 use mathlib.Core.Path.{◌≡◌, refl, ap, ◌∙◌}
 use mathlib.Core.Logic.{◌≢◌}
-use mathlib.Core.Bool.{Bool, true, false}
-use mathlib.Core.List.{List, [], ◌∷◌, ◌++◌, append-nil}
+use Rattle.std.proofs.Common.{Option, Some, None}
+use mathlib.Core.List.{List, [], ◌∷◌, ◌++◌}
 use Prim.Native.Nat.{ℕ, suc, ◌+◌, ◌-◌, ◌≤◌}
 use native.Mathlib.Omega.{arith}
 use lib.Dec.{eqb}
@@ -57,21 +57,14 @@ module _ (R : ℕ) where
   some-radius h = rw (ne_eqb R 0 h)
 
 -- ---- a point, and its course if it has one
-module _ (aimed : Bool) (p : Point) (χ : ℕ) where
-  pub place-least : 14 ≤ length (place_bytes aimed p χ)
-  unfolding place_bytes
-  place-least = simp length-append (omega (arith, point-record p))
+pub place-least : (p : Point) (course : Option ℕ) → 14 ≤ length (place_bytes p course)
+unfolding place_bytes
+place-least p None = omega (arith, point-record p)
+place-least p (Some χ) = simp length-append (omega (arith, point-record p))
 
-  pub with-course : aimed ≡ true → place_bytes aimed p χ ≡ record_bytes 1 (point_bytes p) ++ record_bytes 3 (u16_bytes χ)
-  unfolding place_bytes choose
-  with-course h = rw h
-
-  pub with_none : aimed ≡ false → place_bytes aimed p χ ≡ record_bytes 1 (point_bytes p)
-  unfolding place_bytes choose
-  with_none h = rw h (append-nil (record_bytes 1 (point_bytes p)))
-
-  pub course-length : aimed ≡ true → length (place_bytes aimed p χ) ≡ 18
-  course-length h = rw (with-course h) (simp length-append (omega (arith, point-record p, value-record 3 χ)))
+pub course-length : (p : Point) {χ : ℕ} {course : Option ℕ} → course ≡ Some χ → length (place_bytes p course) ≡ 18
+unfolding place_bytes
+course-length p {χ} e = rw e (simp length-append (omega (arith, point-record p, value-record 3 χ)))
 
 -- ---- the whole
 pub area-is : (p : Plan) → flat (plan_records p) ≡ radius_bytes p.head.radius ++ places_bytes p

@@ -1,13 +1,13 @@
 -- The points and courses of a plan, place by place: what is left to write from a place on. Assumes nothing.
-use mathlib.Core.Path.{◌≡◌, refl, sym, ap, ◌∙◌, subst}
-use mathlib.Core.Bool.{Bool, true, false}
+use mathlib.Core.Path.{◌≡◌, refl, sym, ap, ◌∙◌}
+use Rattle.std.proofs.Common.{Some, None}
+use Rattle.std.specs.Bool.{then_some}
 use mathlib.Core.List.{List, [], ◌∷◌, ◌++◌, append_assoc}
 use Prim.Native.Nat.{ℕ, zero, suc, ◌+◌, ◌-◌, ◌*◌, ◌≤◌, ◌<◌}
 use native.Mathlib.Omega.{arith}
 use lib.Dec.{ltb}
 use lib.ListN.{length, length-append}
 use borrow.Author.Tests.{ltb-true, ltb-false}
-use Rattle.conditions.specs.Choose.{choose}
 use Rattle.conditions.proofs.Bools.{by_bool}
 use Rattle.plane.specs.declared.Point.{Point}
 use Rattle.plan.specs.declared.Plan.{Plan}
@@ -46,27 +46,27 @@ records-length [] (χ ∷ χs) h = absurd (omega arith)
 records-length (p ∷ ps) [] h = simp (length-append, point-length) (omega (arith, records-length ps [] (omega arith)))
 records-length (p ∷ ps) (χ ∷ χs) h = simp (length-append, point-length, u16-length) (omega (arith, records-length ps χs (omega arith)))
 
-module _ (p : Point) (χ : ℕ) (ps : List Point) where
-  one-aimed : (χs : List ℕ) → flat (point_records (p ∷ ps) (χ ∷ χs)) ≡ place_bytes true p χ ++ flat (point_records ps χs)
-  unfolding point_records flat place_bytes record_bytes choose
-  one-aimed χs = simp append_assoc
+module _ (p : Point) (ps : List Point) where
+  one-aimed : (χ : ℕ) (χs : List ℕ) → flat (point_records (p ∷ ps) (χ ∷ χs)) ≡ place_bytes p (Some χ) ++ flat (point_records ps χs)
+  unfolding point_records flat place_bytes record_bytes
+  one-aimed χ χs = simp append_assoc
 
-  one-bare : flat (point_records (p ∷ ps) []) ≡ place_bytes false p χ ++ flat (point_records ps [])
-  unfolding point_records flat place_bytes record_bytes choose
-  one-bare = simp append_assoc
+  one-bare : flat (point_records (p ∷ ps) []) ≡ place_bytes p None ++ flat (point_records ps [])
+  unfolding point_records flat place_bytes record_bytes
+  one-bare = refl
 
 -- the point at place i, where the first n places have a course
 one_place : (i n : ℕ) (p : Point) (ps : List Point) (f : ℕ → ℕ)
-    → flat (point_records (p ∷ ps) (listed f (n - i) i)) ≡ place_bytes (ltb i n) p (f i) ++ flat (point_records ps (listed f (n - (i + 1)) (i + 1)))
+    → flat (point_records (p ∷ ps) (listed f (n - i) i)) ≡ place_bytes p (then_some (ltb i n) (f i)) ++ flat (point_records ps (listed f (n - (i + 1)) (i + 1)))
 one_place i n p ps f =
-    by_bool (ltb i n) (λ t. rw (t, opened f n i (ltb-true i n t)) (one-aimed p (f i) ps (listed f (n - (i + 1)) (i + 1))))
+    by_bool (ltb i n) (λ t. rw (t, opened f n i (ltb-true i n t)) (one-aimed p ps (f i) (listed f (n - (i + 1)) (i + 1))))
     (λ t.
     let l = ltb-false i n t in
-    rw (t, ended f n i l, ended f n (i + 1) (omega arith)) (one-bare p (f i) ps))
+    rw (t, ended f n i l, ended f n (i + 1) (omega arith)) (one-bare p ps))
 
 -- place i of a plan whose first places have a course
 abbrev place_of : Plan → ℕ → ℕ → List ℕ
-place_of p given i = place_bytes (ltb i given) (plan_point p i) (plan_course p i)
+place_of p given i = place_bytes (plan_point p i) (then_some (ltb i given) (plan_course p i))
 
 -- what is left from place i on
 unfoldable pub rest_of : Plan → ℕ → List ℕ
@@ -137,12 +137,9 @@ module _ (p : Plan) where
                 ∙ u.same);
           }
 
--- ---- what is read at a place, and what was
+-- ---- what is read at a place
 pub reads_at : (p : Plan) → Writable p → (i : ℕ) → i < p.head.count → There p.norths p.easts p.downs i × Aiming p.courses i
 reads_at p w i h =
     let m = w.most in
     let l = w.long in
     (record { north = omega (arith, l.north); east = omega (arith, l.east); down = omega (arith, l.down) }, aiming_of p l w.aimed i (omega arith))
-
-pub same-room : (aimed : Bool) (at : ℕ) {p q : Point} {χ ψ n : ℕ} → p ≡ q → χ ≡ ψ → at + length (place_bytes aimed q ψ) ≤ n → at + length (place_bytes aimed p χ) ≤ n
-same-room aimed at {n = n} e f h = subst (λ (k : ℕ). k ≤ n) (λ t. at + length (place_bytes aimed (sym e t) (sym f t))) h

@@ -2,6 +2,7 @@
 #![tactic(auto)]
 
 ghost use Rattle.std.specs.Prelude.{◌≡◌, List, [], ◌∷◌, ℕ, ◌+◌, ◌≤◌, ◌<◌, ℤ, length};
+ghost use Rattle.std.specs.Bool.{then_some};
 ghost use Rattle.plan.specs.Limits.{most_points};
 ghost use Rattle.plan.specs.Places.{plan_point, plan_course, seen};
 ghost use Rattle.plan.specs.Lent.{lent_plan, PointThere, CourseThere};
@@ -121,29 +122,31 @@ fn put_radius(radius: u16, file: &mut [u8]) -> usize
 }
 
 // A point, and its course if it has one. The answer is the offset behind them.
-fn put_place(point: Point, aimed: bool, course: u16, at: usize, file: &mut [u8]) -> usize
-    requires { at + length (place_bytes aimed point course) ≤ length file.old }
-    ensures file_after { file.new ≡ splice at (place_bytes aimed point course) file.old }
-    ensures value { result ≡ at + length (place_bytes aimed point course) }
+fn put_place(point: Point, course: Option<u16>, at: usize, file: &mut [u8]) -> usize
+    requires { at + length (place_bytes point course) ≤ length file.old }
+    ensures file_after { file.new ≡ splice at (place_bytes point course) file.old }
+    ensures value { result ≡ at + length (place_bytes point course) }
 {
     put_point_record(point, at, file);
     let next = at + POINT_RECORD;
-    if aimed {
-        put_value_record(COURSE_ROW.kind, course, next, file);
-        return next + COURSE_RECORD;
+    match course {
+        None => next,
+        Some(course) => {
+            put_value_record(COURSE_ROW.kind, course, next, file);
+            next + COURSE_RECORD
+        }
     }
-    next
 }
 
 // The point at place i, and its course if it has one. The answer is the offset behind them.
 fn put_place_at(plan: &Lent, i: usize, aimed: bool, at: usize, file: &mut [u8]) -> usize
-    requires { (PointThere (lent_plan plan.now) i × CourseThere (lent_plan plan.now) i) × (at + length (place_bytes aimed (plan_point (lent_plan plan.now) i) (plan_course (lent_plan plan.now) i)) ≤ length file.old) }
-    ensures file_after { file.new ≡ splice at (place_bytes aimed (plan_point (lent_plan plan.now) i) (plan_course (lent_plan plan.now) i)) file.old }
-    ensures value { result ≡ at + length (place_bytes aimed (plan_point (lent_plan plan.now) i) (plan_course (lent_plan plan.now) i)) }
+    requires { (PointThere (lent_plan plan.now) i × CourseThere (lent_plan plan.now) i) × (at + length (place_bytes (plan_point (lent_plan plan.now) i) (then_some aimed (plan_course (lent_plan plan.now) i))) ≤ length file.old) }
+    ensures file_after { file.new ≡ splice at (place_bytes (plan_point (lent_plan plan.now) i) (then_some aimed (plan_course (lent_plan plan.now) i))) file.old }
+    ensures value { result ≡ at + length (place_bytes (plan_point (lent_plan plan.now) i) (then_some aimed (plan_course (lent_plan plan.now) i))) }
 {
     let point = plan.point_at(i);
     let course = plan.course_at(i);
-    put_place(point, aimed, course as u16, at, file)
+    put_place(point, aimed.then_some(course as u16), at, file)
 }
 
 // All points of a plan, each with its course behind it where there is one.
