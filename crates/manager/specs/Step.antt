@@ -1,12 +1,10 @@
 -- Clauses 6.3, 7.15, 8.3, 9.2, 9.3, 9.6, 9.7, 10.4, 11.7, 12.1, 12.9, 12.10, 13.1, 13.2, 13.4, 15.1, 15.3, 15.5, 15.7, 18.2: one fix, for a
 -- state of any mode. Assumes nothing.
-use Rattle.std.specs.Prelude.{Bool, true, false, ℕ, ◌+◌, ◌-◌, eqb, ltb}
+use Rattle.std.specs.Prelude.{Bool, true, false, ℕ, ◌+◌, ◌-◌, eqb, ltb, Option, Some, None}
 use Rattle.conditions.specs.Choose.{choose}
 use Rattle.refusals.specs.Numbers.{no_position, no_state, other_serial}
 use Rattle.plane.specs.declared.Point.{Point}
 use Rattle.units.specs.declared.Fix.{Fix}
-use Rattle.units.specs.declared.Position.{Position}
-use Rattle.units.specs.declared.Position.TheVariants.{At, Nowhere}
 use Rattle.units.specs.Position.{position_of}
 use Rattle.dubins.specs.declared.Ends.{Ends}
 use Rattle.dubins.specs.declared.Found.{Found}
@@ -107,9 +105,9 @@ next_here s passed = next_of s.plan.head.mode s.plan.head.count s.progress passe
 unfoldable pub moved_of : State → Point → Stepped
 moved_of s p = stepped_by s.plan (answered (guide_here s p) (next_here s (guide_here s p).passed))
 
-unfoldable pub located_step : State → Position → Stepped
-located_step s (At p) = moved_of s p
-located_step s Nowhere = refuse_of s no_position
+unfoldable pub located_step : State → Option Point → Stepped
+located_step s (Some p) = moved_of s p
+located_step s None = refuse_of s no_position
 
 -- 6.3: the order of 14, 15 and 13
 unfoldable pub step_of : State → ℕ → Fix → Stepped

@@ -23,7 +23,7 @@ use dubins::{Ends, Found};
 use guidance::{Command, Guidance};
 use plan::{Head, Mode, Plan};
 use plane::Point;
-use units::{Fix, Position};
+use units::Fix;
 
 // How far a plan is flown: the index of the point that is flown to, from 1, the phase there, and whether the end was reached.
 #[derive(Clone, Copy)]
@@ -383,8 +383,8 @@ pub fn decide<'a>(
     if valid(head, progress, norths, easts, downs, courses) {
         if serial == head.serial {
             return match units::locate(fix) {
-                Position::At(at) => moved(head, progress, at, norths, easts, downs, courses),
-                Position::Nowhere => refuse(progress, refusals::NO_POSITION),
+                Some(at) => moved(head, progress, at, norths, easts, downs, courses),
+                None => refuse(progress, refusals::NO_POSITION),
             };
         }
         return refuse(progress, refusals::OTHER_SERIAL);
