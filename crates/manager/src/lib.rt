@@ -128,47 +128,43 @@ fn last_phase(mode: Mode, count: usize, index: usize) -> u8
 }
 
 // Whether a flight is at the last index and phase.
+#[tactic(auto, unfolding(crate::specs::State::at_end, conditions::specs::Both::both))]
 fn at_end(mode: Mode, count: usize, p: Progress) -> bool
     ensures { result ≡ at_end mode count p }
 {
-    conditions::both(
-        on_last_leg(count, p.index),
-        p.phase == last_phase(mode, count, p.index),
-    )
+    on_last_leg(count, p.index) && p.phase == last_phase(mode, count, p.index)
 }
 
 // Whether the index is one that a plan has.
+#[tactic(auto, unfolding(crate::specs::State::index_fits, conditions::specs::Both::both))]
 fn index_fits(count: usize, p: Progress) -> bool
     ensures { result ≡ index_fits count p }
 {
-    conditions::both(2 <= p.index, p.index <= last_index(count))
+    2 <= p.index && p.index <= last_index(count)
 }
 
 // Whether the phase is one that the mode allows at the index.
+#[tactic(auto, unfolding(crate::specs::State::phase_fits, conditions::specs::Both::both))]
 fn phase_fits(mode: Mode, count: usize, p: Progress) -> bool
     ensures { result ≡ phase_fits mode count p }
 {
-    conditions::both(1 <= p.phase, p.phase <= last_phase(mode, count, p.index))
+    1 <= p.phase && p.phase <= last_phase(mode, count, p.index)
 }
 
 // Whether a flight that is finished is at the last index and phase.
+#[tactic(auto, unfolding(crate::specs::State::end_fits, conditions::specs::Choose::choose))]
 fn end_fits(mode: Mode, count: usize, p: Progress) -> bool
     ensures { result ≡ end_fits mode count p }
 {
-    if p.finished {
-        return at_end(mode, count, p);
-    }
-    true
+    !p.finished || at_end(mode, count, p)
 }
 
 // Whether index, phase and finished are such as the mode allows.
+#[tactic(auto, unfolding(crate::specs::State::placed_of, conditions::specs::Both::both))]
 fn placed(mode: Mode, count: usize, p: Progress) -> bool
     ensures { result ≡ placed_of mode count p }
 {
-    conditions::both(
-        index_fits(count, p),
-        conditions::both(phase_fits(mode, count, p), end_fits(mode, count, p)),
-    )
+    index_fits(count, p) && phase_fits(mode, count, p) && end_fits(mode, count, p)
 }
 
 // Whether a state is not refused 14.
@@ -293,25 +289,30 @@ fn guide<'a>(
 }
 
 // How far the plan is flown after a fix that ended its phase, or did not.
+#[tactic(auto, unfolding(crate::specs::Step::next_of, conditions::specs::Choose::choose))]
 fn next(mode: Mode, count: usize, p: Progress, passed: bool) -> Progress
     requires { p.index ≤ most_points }
     ensures { result ≡ next_of mode count p passed }
 {
-    let mut t = p;
-    if passed {
-        if p.phase < last_phase(mode, count, p.index) {
-            t.phase = p.phase + 1;
-            return t;
+    if !passed {
+        p
+    } else if p.phase < last_phase(mode, count, p.index) {
+        Progress {
+            phase: p.phase + 1,
+            ..p
         }
-        if on_last_leg(count, p.index) {
-            t.finished = true;
-            return t;
+    } else if on_last_leg(count, p.index) {
+        Progress {
+            finished: true,
+            ..p
         }
-        t.index = p.index + 1;
-        t.phase = 1;
-        return t;
+    } else {
+        Progress {
+            index: p.index + 1,
+            phase: 1,
+            ..p
+        }
     }
-    t
 }
 
 // A refusal: no command, heading 0, as far as before.
