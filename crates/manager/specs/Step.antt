@@ -11,6 +11,7 @@ use Rattle.dubins.specs.declared.Found.{Found}
 use Rattle.dubins.specs.declared.Found.TheVariants.{Shortest, Missing}
 use Rattle.dubins.specs.Choice.{shortest_of}
 use Rattle.guidance.specs.declared.Guidance.{Guidance}
+use Rattle.guidance.specs.declared.Command.{Command}
 use Rattle.guidance.specs.declared.Command.TheVariants.{Nothing}
 use Rattle.guidance.specs.Guide.{line_guide, fillet_guide, last_leg_guide, dubins_guide}
 use Rattle.plan.specs.declared.Mode.{Mode}
@@ -59,16 +60,16 @@ next_of mode n p passed =
 abbrev pub stepped_by : Plan → Decided → Stepped
 stepped_by plan d = record { answer = d.answer; state = record { plan = plan; progress = d.progress } }
 
--- 9.7: no command, heading 0, and the state where it was
-abbrev pub refused_at : Progress → ℕ → Decided
-refused_at p number =
+-- a number, a command and a heading, with how far the plan is flown after them
+abbrev pub answering : ℕ → Command → ℕ → Progress → Decided
+answering number command heading p =
     record {
       answer =
           record {
             refusal = number;
             place = 0;
-            command = Nothing;
-            heading = 0;
+            command = command;
+            heading = heading;
             index = p.index;
             phase = p.phase;
             finished = p.finished;
@@ -76,25 +77,16 @@ refused_at p number =
       progress = p;
     }
 
+-- 9.7: no command, heading 0, and the state where it was
+abbrev pub refused_at : Progress → ℕ → Decided
+refused_at p number = answering number Nothing 0 p
+
 unfoldable pub refuse_of : State → ℕ → Stepped
 refuse_of s number = stepped_by s.plan (refused_at s.progress number)
 
 -- 9.6: the command and its heading, and where the next state is
 abbrev pub answered : Guidance → Progress → Decided
-answered g next =
-    record {
-      answer =
-          record {
-            refusal = 0;
-            place = 0;
-            command = g.command;
-            heading = g.heading;
-            index = next.index;
-            phase = next.phase;
-            finished = next.finished;
-          };
-      progress = next;
-    }
+answered g next = answering 0 g.command g.heading next
 
 abbrev pub guide_here : State → Point → Guidance
 guide_here s p = guide_of s.plan.head.mode s.plan s.progress.index s.progress.phase p

@@ -14,7 +14,7 @@ ghost use Rattle.plan.specs.Limits.{most_points, most_radius, most_turn};
 ghost use Rattle.plan.specs.Places.{place_at, course_at, seen};
 ghost use Rattle.plan.specs.Stands.{stands_of, Placed, Aiming, Long};
 ghost use Rattle.manager.specs.State.{empty_state, first_progress, viewed, last_index, on_last_leg, last_phase, at_end, index_fits, phase_fits, end_fits, placed_of, valid_of, Valid};
-ghost use Rattle.manager.specs.Step.{path_guide, guide_here, next_of, stepped_by, refused_at, refuse_of, answered, moved_of, step_of};
+ghost use Rattle.manager.specs.Step.{path_guide, guide_here, next_of, stepped_by, answering, refused_at, refuse_of, answered, moved_of, step_of};
 ghost use Rattle.manager.specs.Finish.{Finishes};
 ghost use Rattle.manager.specs.LastLeg.{LastLeg};
 ghost use Rattle.manager.specs.Flies.{Flies};
@@ -315,15 +315,15 @@ fn next(mode: Mode, count: usize, p: Progress, passed: bool) -> Progress
     }
 }
 
-// A refusal: no command, heading 0, as far as before.
-fn refuse(progress: Progress, number: u8) -> Decided
-    ensures { result ≡ refused_at progress number }
+// What is decided of a fix: a number, a command and a heading, and how far the plan is flown after it.
+fn answering(number: u8, command: Command, heading: u16, progress: Progress) -> Decided
+    ensures { result ≡ answering number command heading progress }
 {
     let answer = Answer {
         refusal: number,
         place: 0,
-        command: Command::Nothing,
-        heading: 0,
+        command,
+        heading,
         index: progress.index,
         phase: progress.phase,
         finished: progress.finished,
@@ -331,22 +331,19 @@ fn refuse(progress: Progress, number: u8) -> Decided
     Decided { answer, progress }
 }
 
+// A refusal: no command, heading 0, as far as before.
+fn refuse(progress: Progress, number: u8) -> Decided
+    ensures { result ≡ refused_at progress number }
+{
+    answering(number, Command::Nothing, 0, progress)
+}
+
 // The answer by a guidance, and how far the plan is flown after it.
 fn accept(g: Guidance, progress: Progress) -> Decided
     requires { g.heading < 4096 }
     ensures { result ≡ answered g progress }
 {
-    let command = g.command;
-    let answer = Answer {
-        refusal: 0,
-        place: 0,
-        command,
-        heading: g.heading as u16,
-        index: progress.index,
-        phase: progress.phase,
-        finished: progress.finished,
-    };
-    Decided { answer, progress }
+    answering(0, g.command, g.heading as u16, progress)
 }
 
 // A fix that no number refuses, at its position.
