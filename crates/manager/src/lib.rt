@@ -14,7 +14,7 @@ ghost use Rattle.plan.specs.Limits.{most_points, most_radius, most_turn};
 ghost use Rattle.plan.specs.Places.{place_at, course_at, seen};
 ghost use Rattle.plan.specs.Stands.{stands_of, Placed, Aiming, Long};
 ghost use Rattle.manager.specs.State.{empty_state, first_progress, viewed, last_index, on_last_leg, last_phase, at_end, index_fits, phase_fits, end_fits, placed_of, valid_of, Valid};
-ghost use Rattle.manager.specs.Step.{path_guide, guide_here, next_of, stepped_by, refused_at, refuse_of, answered, moved_of, step_of};
+ghost use Rattle.manager.specs.Step.{path_guide, guide_here, next_of, stepped_by, answering, refused_at, refuse_of, answered, moved_of, step_of};
 ghost use Rattle.manager.specs.Finish.{Finishes};
 ghost use Rattle.manager.specs.LastLeg.{LastLeg};
 ghost use Rattle.manager.specs.Flies.{Flies};
@@ -23,7 +23,7 @@ use dubins::{Ends, Found};
 use guidance::{Command, Guidance};
 use plan::{Head, Mode, Plan};
 use plane::Point;
-use units::{Fix, Position};
+use units::Fix;
 
 // How far a plan is flown: the index of the point that is flown to, from 1, the phase there, and whether the end was reached.
 #[derive(Clone, Copy)]
@@ -128,47 +128,43 @@ fn last_phase(mode: Mode, count: usize, index: usize) -> u8
 }
 
 // Whether a flight is at the last index and phase.
+#[tactic(auto, unfolding(crate::specs::State::at_end, conditions::specs::Both::both))]
 fn at_end(mode: Mode, count: usize, p: Progress) -> bool
     ensures { result ≡ at_end mode count p }
 {
-    conditions::both(
-        on_last_leg(count, p.index),
-        p.phase == last_phase(mode, count, p.index),
-    )
+    on_last_leg(count, p.index) && p.phase == last_phase(mode, count, p.index)
 }
 
 // Whether the index is one that a plan has.
+#[tactic(auto, unfolding(crate::specs::State::index_fits, conditions::specs::Both::both))]
 fn index_fits(count: usize, p: Progress) -> bool
     ensures { result ≡ index_fits count p }
 {
-    conditions::both(2 <= p.index, p.index <= last_index(count))
+    2 <= p.index && p.index <= last_index(count)
 }
 
 // Whether the phase is one that the mode allows at the index.
+#[tactic(auto, unfolding(crate::specs::State::phase_fits, conditions::specs::Both::both))]
 fn phase_fits(mode: Mode, count: usize, p: Progress) -> bool
     ensures { result ≡ phase_fits mode count p }
 {
-    conditions::both(1 <= p.phase, p.phase <= last_phase(mode, count, p.index))
+    1 <= p.phase && p.phase <= last_phase(mode, count, p.index)
 }
 
 // Whether a flight that is finished is at the last index and phase.
+#[tactic(auto, unfolding(crate::specs::State::end_fits, conditions::specs::Choose::choose))]
 fn end_fits(mode: Mode, count: usize, p: Progress) -> bool
     ensures { result ≡ end_fits mode count p }
 {
-    if p.finished {
-        return at_end(mode, count, p);
-    }
-    true
+    !p.finished || at_end(mode, count, p)
 }
 
 // Whether index, phase and finished are such as the mode allows.
+#[tactic(auto, unfolding(crate::specs::State::placed_of, conditions::specs::Both::both))]
 fn placed(mode: Mode, count: usize, p: Progress) -> bool
     ensures { result ≡ placed_of mode count p }
 {
-    conditions::both(
-        index_fits(count, p),
-        conditions::both(phase_fits(mode, count, p), end_fits(mode, count, p)),
-    )
+    index_fits(count, p) && phase_fits(mode, count, p) && end_fits(mode, count, p)
 }
 
 // Whether a state is not refused 14.
@@ -293,41 +289,53 @@ fn guide<'a>(
 }
 
 // How far the plan is flown after a fix that ended its phase, or did not.
+#[tactic(auto, unfolding(crate::specs::Step::next_of, conditions::specs::Choose::choose))]
 fn next(mode: Mode, count: usize, p: Progress, passed: bool) -> Progress
     requires { p.index ≤ most_points }
     ensures { result ≡ next_of mode count p passed }
 {
-    let mut t = p;
-    if passed {
-        if p.phase < last_phase(mode, count, p.index) {
-            t.phase = p.phase + 1;
-            return t;
+    if !passed {
+        p
+    } else if p.phase < last_phase(mode, count, p.index) {
+        Progress {
+            phase: p.phase + 1,
+            ..p
         }
-        if on_last_leg(count, p.index) {
-            t.finished = true;
-            return t;
+    } else if on_last_leg(count, p.index) {
+        Progress {
+            finished: true,
+            ..p
         }
-        t.index = p.index + 1;
-        t.phase = 1;
-        return t;
+    } else {
+        Progress {
+            index: p.index + 1,
+            phase: 1,
+            ..p
+        }
     }
-    t
+}
+
+// What is decided of a fix: a number, a command and a heading, and how far the plan is flown after it.
+fn answering(number: u8, command: Command, heading: u16, progress: Progress) -> Decided
+    ensures { result ≡ answering number command heading progress }
+{
+    let answer = Answer {
+        refusal: number,
+        place: 0,
+        command,
+        heading,
+        index: progress.index,
+        phase: progress.phase,
+        finished: progress.finished,
+    };
+    Decided { answer, progress }
 }
 
 // A refusal: no command, heading 0, as far as before.
 fn refuse(progress: Progress, number: u8) -> Decided
     ensures { result ≡ refused_at progress number }
 {
-    let answer = Answer {
-        refusal: number,
-        place: 0,
-        command: Command::Nothing,
-        heading: 0,
-        index: progress.index,
-        phase: progress.phase,
-        finished: progress.finished,
-    };
-    Decided { answer, progress }
+    answering(number, Command::Nothing, 0, progress)
 }
 
 // The answer by a guidance, and how far the plan is flown after it.
@@ -335,17 +343,7 @@ fn accept(g: Guidance, progress: Progress) -> Decided
     requires { g.heading < 4096 }
     ensures { result ≡ answered g progress }
 {
-    let command = g.command;
-    let answer = Answer {
-        refusal: 0,
-        place: 0,
-        command,
-        heading: g.heading as u16,
-        index: progress.index,
-        phase: progress.phase,
-        finished: progress.finished,
-    };
-    Decided { answer, progress }
+    answering(0, g.command, g.heading as u16, progress)
 }
 
 // A fix that no number refuses, at its position.
@@ -383,8 +381,8 @@ pub fn decide<'a>(
     if valid(head, progress, norths, easts, downs, courses) {
         if serial == head.serial {
             return match units::locate(fix) {
-                Position::At(at) => moved(head, progress, at, norths, easts, downs, courses),
-                Position::Nowhere => refuse(progress, refusals::NO_POSITION),
+                Some(at) => moved(head, progress, at, norths, easts, downs, courses),
+                None => refuse(progress, refusals::NO_POSITION),
             };
         }
         return refuse(progress, refusals::OTHER_SERIAL);

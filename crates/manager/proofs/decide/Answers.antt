@@ -8,22 +8,22 @@ use Rattle.manager.proofs.decide.Goals as goal
 
 pub moved-requires : goal.moved-requires
 moved-requires c =
-    (c.requires, (c.valid.ensures.1 c.if-valid.true, subst IsPosition c.in-At.is c.locate.ensures.1.0))
+    (c.requires, (c.valid.ensures.1 c.if-valid.true, subst IsPosition c.in-Some.is c.locate.ensures.1.0))
 
-pub returns-in-At : goal.returns-in-At
+pub returns-in-Some : goal.returns-in-Some
 unfolding located_step
-returns-in-At c =
+returns-in-Some c =
     let h = rw c.valid.ensures.0 at c.if-valid.true in
     let k = eq-eqb _ _ c.if-serial-head.true in
-    let e = rw c.locate.ensures.0 at c.in-At.is in
+    let e = rw c.locate.ensures.0 at c.in-Some.is in
     rw (step-located, e) c.moved.ensures
 
-pub returns-in-Nowhere : goal.returns-in-Nowhere
+pub returns-in-None : goal.returns-in-None
 unfolding refuse_of
-returns-in-Nowhere c =
+returns-in-None c =
     let h = rw c.valid.ensures.0 at c.if-valid.true in
     let k = eq-eqb _ _ c.if-serial-head.true in
-    let e = rw c.locate.ensures.0 at c.in-Nowhere.is in
+    let e = rw c.locate.ensures.0 at c.in-None.is in
     rw (step-13, c.refuse.ensures)
 
 pub returns-then-valid : goal.returns-then-valid
