@@ -1,5 +1,6 @@
 -- What a case is long at least, whatever its course: its two turns come to the turn between the leg's courses, and squares tell whether its straight
 -- part reaches a number. Assumes nothing.
+use Rattle.std.proofs.Common.{Option}
 use mathlib.Core.Path.{◌≡◌, refl, sym, ap, ◌∙◌}
 use mathlib.Core.Bool.{Bool, true, false, not}
 use Prim.Native.Nat.{ℕ, ◌+◌, ◌-◌, ◌*◌, ◌%◌, ◌≤◌, ◌<◌}
@@ -15,9 +16,9 @@ use Rattle.course.specs.declared.Vector.{Vector}
 use Rattle.course.specs.Bearing.{bearing_of}
 use Rattle.course.proofs.BearingLaws.{bearing-low}
 use Rattle.plane.specs.Level.{arc_of, square_of}
+use Rattle.dubins.specs.declared.Path.{Path}
 use Rattle.dubins.specs.declared.Ends.{Ends}
 use Rattle.dubins.specs.declared.Circles.{Circles}
-use Rattle.dubins.specs.declared.Found.{Found}
 use Rattle.dubins.specs.Cases.{starts_right, ends_right, same_side, circles_of, case_exists, straight_of, straight_course, arc_turn, case_length, path_of}
 use Rattle.dubins.specs.Choice.{case_path, shorter_of}
 use Rattle.dubins.specs.Ways.{no_length, Measures}
@@ -117,7 +118,7 @@ module _ (case R : ℕ) (v : Vector) (length arcs : ℕ) (h : arcs < length) whe
 -- a case that is as long is not taken
 pub not-shorter : (ends : Ends) (case best : ℕ) (circles : Circles) → case_exists ends case ≡ true → circles ≡ circles_of ends case → best < no_length
     → (let s = straight_of case ends.radius circles.v in best ≤ case_length ends case s (straight_course case ends.radius s circles.v))
-    → (f : Found) → Measures f best → shorter_of f (case_path ends case) ≡ f
+    → (f : Option Path) → Measures f best → shorter_of f (case_path ends case) ≡ f
 unfolding path_of
 not-shorter ends case best circles there e low long f k =
     ap (shorter_of f) (case-there ends case circles _ _ there e refl refl) ∙ earlier-stays f best k _ best low (le_refl best) long

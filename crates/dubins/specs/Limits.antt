@@ -1,12 +1,10 @@
 -- No clause: what a leg's ends may be, and the bounds of its path, for contracts below a plan. Assumes nothing.
-use Rattle.std.specs.Prelude.{◌≤◌, ◌<◌}
+use Rattle.std.specs.Prelude.{◌≤◌, ◌<◌, Option, Some, None}
 use Rattle.course.specs.Vectors.{Near}
 use Rattle.plane.specs.Area.{InArea}
 use Rattle.dubins.specs.declared.Ends.{Ends}
 use Rattle.dubins.specs.declared.Circles.{Circles}
 use Rattle.dubins.specs.declared.Path.{Path}
-use Rattle.dubins.specs.declared.Found.{Found}
-use Rattle.dubins.specs.declared.Found.TheVariants.{Shortest, Missing}
 
 -- two points of the area, two courses and a radius
 pub record IsEnds (ends : Ends) : Type 0 where
@@ -33,6 +31,6 @@ pub record IsPath (p : Path) : Type 0 where
   pub z1 : Near 520000 p.z1
   pub z2 : Near 520000 p.z2
 
-abbrev pub IsFound : Found → Type 0
-IsFound (Shortest p) = IsPath p
-IsFound Missing = Unit {0}
+abbrev pub IsFound : Option Path → Type 0
+IsFound (Some p) = IsPath p
+IsFound None = Unit {0}

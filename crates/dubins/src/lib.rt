@@ -1,14 +1,12 @@
 // The four cases of a Dubins leg and the shortest of them (docs/RULES.md, section 12).
 #![tactic(auto)]
 
-ghost use Rattle.std.specs.Prelude.{◌≡◌, true, ℕ, ◌+◌, ◌≤◌, ◌<◌, leb};
+ghost use Rattle.std.specs.Prelude.{◌≡◌, true, ℕ, ◌+◌, ◌≤◌, ◌<◌, leb, Option};
 ghost use Rattle.course.specs.Vectors.{Near};
 ghost use Rattle.plane.specs.declared.Point.{Point};
 ghost use Rattle.plane.specs.Area.{InArea};
 ghost use Rattle.plane.specs.Level.{minus};
 ghost use Rattle.dubins.specs.declared.Path.{Path};
-ghost use Rattle.dubins.specs.declared.Found.{Found};
-ghost use Rattle.dubins.specs.declared.Found.TheVariants.{Shortest, Missing};
 ghost use Rattle.dubins.specs.Limits.{IsEnds, IsCircles, IsPath, IsFound};
 ghost use Rattle.dubins.specs.Cases.{starts_right, ends_right, same_side, centre_of, circles_of, tangent_exists, straight_of, inner_tangent, straight_course, arc_turn, case_length, touch_of, path_of, case_exists};
 ghost use Rattle.dubins.specs.Choice.{case_path, shorter_of, shortest_of, found_length, has_path_of, far_apart, Chosen, Existence};
@@ -64,20 +62,6 @@ struct Way {
     length: u64,
     start: Vector,
     end: Vector,
-}
-
-// The way of a case, or that the case does not exist.
-#[derive(Clone, Copy)]
-enum Tried {
-    Exists(Way),
-    Absent,
-}
-
-// The shortest of the cases that were asked for, or that none of them exists.
-#[derive(Clone, Copy)]
-pub enum Found {
-    Shortest(Path),
-    Missing,
 }
 
 // More than a leg is long by any case.
@@ -274,29 +258,27 @@ fn case_exists(ends: Ends, case: u8) -> bool
     tangent_exists(v, ends.radius, case)
 }
 
-// The shorter of two, the earlier on a tie.
-fn shorter(a: Tried, b: Tried) -> Tried
-    requires { IsTried a × IsTried b }
-    ensures { ((R : ℕ) → found_by R result ≡ shorter_of (found_by R a) (found_by R b)) × IsTried result }
+// The shorter of what was found before and a way, the earlier on a tie.
+fn shorter(best: Option<Way>, later: Way) -> Way
+    requires { IsTried best × IsWay later }
+    ensures { ((R : ℕ) → Some (path_along R result) ≡ shorter_of (found_by R best) (Some (path_along R later))) × IsWay result }
 {
-    match b {
-        Tried::Absent => a,
-        Tried::Exists(later) => match a {
-            Tried::Absent => b,
-            Tried::Exists(earlier) => if earlier.length <= later.length { a } else { b },
+    match best {
+        Some(earlier) => if earlier.length <= later.length {
+            earlier
+        } else {
+            later
         },
+        None => later,
     }
 }
 
 // The length of what was found, and more than any length where nothing was.
-fn length_before(best: Tried) -> u64
+fn length_before(best: Option<Way>) -> u64
     requires { IsTried best }
     ensures { (R : ℕ) → Measures (found_by R best) result }
 {
-    match best {
-        Tried::Exists(way) => way.length,
-        Tried::Absent => NO_LENGTH,
-    }
+    best.map_or(NO_LENGTH, |way| way.length)
 }
 
 // What both turns of a case come to at least, whatever the course between them: the turn from course to course on the side of both circles, and
@@ -363,7 +345,7 @@ fn no_shorter(length: u64, ends: Ends, v: Vector, case: u8) -> bool
 
 // The shorter of what was found before and a case, from both centres at each end. Roots and bearings are dear, so those of a case that is seen not to
 // win are not worked out.
-fn better(best: Tried, ends: Ends, from: Centres, to: Centres, case: u8) -> Tried
+fn better(best: Option<Way>, ends: Ends, from: Centres, to: Centres, case: u8) -> Option<Way>
     requires tried { IsTried best × (IsEnds ends × ((1 ≤ case) × (case ≤ 4))) }
     requires are_centres { AreCentres ends.start ends.radius ends.leave from }
     requires are_centres_2 { AreCentres ends.end ends.radius ends.arrive to }
@@ -373,17 +355,15 @@ fn better(best: Tried, ends: Ends, from: Centres, to: Centres, case: u8) -> Trie
     let end = centre_on(to, ends_right(case));
     let circles = circles_at(start, end);
     let v = circles.v;
-    if tangent_exists(v, ends.radius, case) {
-        if no_shorter(length_before(best), ends, v, case) {
-            best
-        } else {
-            let s = straight(v, ends.radius, case);
-            let course = straight_course(v, s, ends.radius, case);
-            shorter(best, Tried::Exists(way_of(ends, case, circles, s, course)))
-        }
-    } else {
-        best
+    if !tangent_exists(v, ends.radius, case) {
+        return best;
     }
+    if no_shorter(length_before(best), ends, v, case) {
+        return best;
+    }
+    let s = straight(v, ends.radius, case);
+    let course = straight_course(v, s, ends.radius, case);
+    Some(shorter(best, way_of(ends, case, circles, s, course)))
 }
 
 // The path along a way, with the points where its straight part touches the circles.
@@ -407,18 +387,15 @@ fn path_along(way: Way, radius: u64) -> Path
 }
 
 // The path of a case that was tried, where that exists.
-fn found_by(tried: Tried, radius: u64) -> Found
+fn found_by(tried: Option<Way>, radius: u64) -> Option<Path>
     requires { IsTried tried × (radius ≤ 10000) }
     ensures { (result ≡ found_by radius tried) × IsFound result }
 {
-    match tried {
-        Tried::Exists(way) => Found::Shortest(path_along(way, radius)),
-        Tried::Absent => Found::Missing,
-    }
+    tried.map(|way| path_along(way, radius))
 }
 
 // The shortest leg by any case. The centres are worked out once for all cases, z1 and z2 for the shortest alone.
-pub fn shortest_path(ends: Ends) -> Found
+pub fn shortest_path(ends: Ends) -> Option<Path>
     requires { IsEnds ends }
     ensures value { result ≡ shortest_of ends }
     ensures found { IsFound result }
@@ -428,7 +405,7 @@ pub fn shortest_path(ends: Ends) -> Found
     let end = ends.end;
     let from = both_centres(start, ends.radius, ends.leave);
     let to = both_centres(end, ends.radius, ends.arrive);
-    let rsr = better(Tried::Absent, ends, from, to, 1);
+    let rsr = better(None, ends, from, to, 1);
     let rsl = better(rsr, ends, from, to, 2);
     let lsr = better(rsl, ends, from, to, 3);
     let lsl = better(lsr, ends, from, to, 4);
@@ -440,7 +417,7 @@ fn better_length(best: u64, ends: Ends, from: Centres, to: Centres, case: u8) ->
     requires ends { IsEnds ends × ((1 ≤ case) × (case ≤ 4)) }
     requires are_centres { AreCentres ends.start ends.radius ends.leave from }
     requires are_centres_2 { AreCentres ends.end ends.radius ends.arrive to }
-    ensures { (f : Found) → Measures f best → Measures (shorter_of f (case_path ends case)) result }
+    ensures { (f : Option Path) → Measures f best → Measures (shorter_of f (case_path ends case)) result }
 {
     let start = centre_on(from, starts_right(case));
     let end = centre_on(to, ends_right(case));
@@ -472,7 +449,7 @@ fn outer_length(ends: Ends, from: Centres, to: Centres) -> u64
     requires ends { IsEnds ends }
     requires are_centres { AreCentres ends.start ends.radius ends.leave from }
     requires are_centres_2 { AreCentres ends.end ends.radius ends.arrive to }
-    ensures { Measures (shorter_of (shorter_of Missing (case_path ends 1)) (case_path ends 4)) result }
+    ensures { Measures (shorter_of (shorter_of None (case_path ends 1)) (case_path ends 4)) result }
 {
     if left_nearer(from, to) {
         let lsl = better_length(NO_LENGTH, ends, from, to, 4);
