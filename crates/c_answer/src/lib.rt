@@ -98,7 +98,7 @@ pub fn put_answer(answer: Answer, part: &mut [u32])
         answer.phase as u32,
         flag(answer.finished),
     ];
-    buffers::put_words(&values, part);
+    buffers::put(&values, part);
 }
 
 // An answer at its place among others.
@@ -116,7 +116,7 @@ pub fn put_command(command: Command, part: &mut [f32])
     ensures command_example { CommandExample }
 {
     match command {
-        Command::Line { start, direction } => buffers::put_floats(
+        Command::Line { start, direction } => buffers::put(
             &[
                 start.north,
                 start.east,
@@ -131,11 +131,11 @@ pub fn put_command(command: Command, part: &mut [f32])
             centre,
             radius,
             sense,
-        } => buffers::put_floats(
+        } => buffers::put(
             &[centre.north, centre.east, centre.down, radius, 0.0, 0.0],
             part,
         ),
-        Command::Nothing => buffers::put_floats(&[0.0, 0.0, 0.0, 0.0, 0.0, 0.0], part),
+        Command::Nothing => buffers::put(&[0.0, 0.0, 0.0, 0.0, 0.0, 0.0], part),
     }
 }
 

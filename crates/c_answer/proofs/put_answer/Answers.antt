@@ -8,6 +8,6 @@ unfolding answer_words
 returns c =
     record {
       part_after = simp (← c.flag.ensures, ← c.word-2.ensures, ← c.command_sense.ensures, ← c.kind.ensures, ← c.word.ensures)
-          c.put_words.ensures;
+          c.put.ensures.part_after;
       answer_example = answers;
     }

@@ -6,12 +6,12 @@ use Rattle.c_answer.proofs.put_command.Goals as goal
 
 pub returns-in-Line : goal.returns-in-Line
 unfolding command_numbers
-returns-in-Line c = record { part_after = rw c.in-Line.is c.put_floats.ensures; command_example = commands }
+returns-in-Line c = record { part_after = rw c.in-Line.is c.put.ensures.part_after; command_example = commands }
 
 pub returns-in-Circle : goal.returns-in-Circle
 unfolding command_numbers of_bits
-returns-in-Circle c = record { part_after = rw c.in-Circle.is c.put_floats-in-Circle.ensures; command_example = commands }
+returns-in-Circle c = record { part_after = rw c.in-Circle.is c.put-in-Circle.ensures.part_after; command_example = commands }
 
 pub returns-in-Nothing : goal.returns-in-Nothing
 unfolding command_numbers of_bits
-returns-in-Nothing c = record { part_after = rw c.in-Nothing.is c.put_floats-in-Nothing.ensures; command_example = commands }
+returns-in-Nothing c = record { part_after = rw c.in-Nothing.is c.put-in-Nothing.ensures.part_after; command_example = commands }
