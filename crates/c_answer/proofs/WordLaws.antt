@@ -1,4 +1,4 @@
--- How many words and numbers there are, what a word keeps, and the word of a sense by the sign of the sense. Assumes nothing.
+-- How many words and numbers there are, and what a word keeps. Assumes nothing.
 use mathlib.Core.Path.{◌≡◌, refl}
 use Prim.Native.Nat.{ℕ, ◌<◌}
 use native.Mathlib.Omega.{arith}
@@ -25,13 +25,3 @@ command-length Nothing = refl
 pub word_kept : (n : ℕ) → n < 4294967296 → word_of n ≡ n
 unfolding word_of
 word_kept n h = omega arith
-
-pub anticlockwise : (sense : ℤ) → sense <ℤ pos 0 → sense_word sense ≡ 4294967295
-unfolding sense_word choose
-anticlockwise (pos n) h = absurd (omega (arith, ltb→lt n 0 h.lt))
-anticlockwise (negsuc n) h = refl
-
-pub clockwise : (sense : ℤ) → pos 0 ≤ℤ sense → sense_word sense ≡ 1
-unfolding sense_word choose
-clockwise (pos n) h = refl
-clockwise (negsuc n) h = absurd h.le

@@ -36,7 +36,7 @@ pub fn put_text(text: &[u8], at: usize, buffer: &mut [u8]) -> usize
     requires { at + length text.now ≤ length buffer.old }
     ensures { Wrote at text.now buffer.old buffer.new result }
 {
-    buffers::put_bytes(text, &mut buffer[at..]);
+    buffers::put(text, &mut buffer[at..]);
     at + text.len()
 }
 

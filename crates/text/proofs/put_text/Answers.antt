@@ -7,4 +7,4 @@ use Rattle.text.proofs.put_text.Goals as goal
 pub returns : goal.returns
 returns c =
     let a = c.args in
-    copied a.at a.text.now a.buffer.now _ (omega arith) (lent a.at a.text.now a.buffer.now c.put_bytes.new.part c.put_bytes.ensures.part_after)
+    copied a.at a.text.now a.buffer.now _ (omega arith) (lent a.at a.text.now a.buffer.now c.put.new.part c.put.ensures.part_after)
