@@ -7,8 +7,7 @@ use Rattle.plane.specs.declared.Point.{Point}
 use Rattle.units.specs.declared.Fix.{Fix}
 use Rattle.units.specs.Position.{position_of}
 use Rattle.dubins.specs.declared.Ends.{Ends}
-use Rattle.dubins.specs.declared.Found.{Found}
-use Rattle.dubins.specs.declared.Found.TheVariants.{Shortest, Missing}
+use Rattle.dubins.specs.declared.Path.{Path}
 use Rattle.dubins.specs.Choice.{shortest_of}
 use Rattle.guidance.specs.declared.Guidance.{Guidance}
 use Rattle.guidance.specs.declared.Command.{Command}
@@ -30,9 +29,9 @@ abbrev pub ends_of : Plan → ℕ → Ends
 ends_of plan i = ends_at plan.head.radius (plan_point plan) (plan_course plan) (i - 2) (i - 1)
 
 -- its guidance by the path that was worked out. A leg of a valid state has one (the law valid-path of proofs/StateLaws).
-unfoldable pub path_guide : Ends → ℕ → Point → Found → Guidance
-path_guide ends phase p (Shortest path) = dubins_guide ends path phase p
-path_guide ends phase p Missing = record { command = Nothing; heading = 0; passed = false }
+unfoldable pub path_guide : Ends → ℕ → Point → Option Path → Guidance
+path_guide ends phase p (Some path) = dubins_guide ends path phase p
+path_guide ends phase p None = record { command = Nothing; heading = 0; passed = false }
 
 -- 9.2: what each mode does at index i, with the points i−1, i and i+1. 13.2: the last leg has no point after it; lines and fillets have a rule
 -- of their own there, fillets in north and east.
