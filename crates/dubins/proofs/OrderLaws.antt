@@ -4,10 +4,11 @@ use mathlib.Core.Path.{◌≡◌, refl, ◌∙◌}
 use Prim.Native.Nat.{ℕ, ◌<◌, min}
 use native.Mathlib.Omega.{arith}
 use native.Mathlib.Decide.{dec_lt}
+use Rattle.dubins.specs.declared.Case.TheVariants.{Rsr, Rsl, Lsr, Lsl}
 use Rattle.dubins.specs.declared.Ends.{Ends}
 use Rattle.dubins.specs.declared.Path.{Path}
 use Rattle.dubins.specs.Choice.{case_path, shorter_of}
-use Rattle.dubins.specs.Ways.{Measures, shortest_to}
+use Rattle.dubins.specs.Ways.{Measures}
 use Rattle.dubins.proofs.ShortestLaws.{earlier-wins, later-wins}
 
 -- both missing, or as long
@@ -80,22 +81,21 @@ either_first (Some o) (Some p) (Some q) =
     of_three o p q ek el em en = omega arith
 
 -- LSL before RSR
-pub left-first : (ends : Ends) (n : ℕ) → Measures (shorter_of (shorter_of None (case_path ends 4)) (case_path ends 1)) n
-    → Measures (shorter_of (shorter_of None (case_path ends 1)) (case_path ends 4)) n
+pub left-first : (ends : Ends) (n : ℕ) → Measures (shorter_of (shorter_of None (case_path ends Lsl)) (case_path ends Rsr)) n
+    → Measures (shorter_of (shorter_of None (case_path ends Rsr)) (case_path ends Lsl)) n
 left-first ends n =
-    let one = case_path ends 1 in
-    let four = case_path ends 4 in
+    let one = case_path ends Rsr in
+    let four = case_path ends Lsl in
     same-measures (shorter_of (shorter_of None four) one) (shorter_of (shorter_of None one) four) n (either_first None four one)
 
 -- LSL before RSL and LSR
-pub outer-first : (ends : Ends) (n : ℕ) → Measures (shorter_of (shorter_of (shorter_of (shorter_of None (case_path ends 1)) (case_path ends 4)) (case_path ends 2)) (case_path ends 3)) n
-    → Measures (shortest_to ends 4) n
-unfolding shortest_to
+pub outer-first : (ends : Ends) (n : ℕ) → Measures (shorter_of (shorter_of (shorter_of (shorter_of None (case_path ends Rsr)) (case_path ends Lsl)) (case_path ends Rsl)) (case_path ends Lsr)) n
+    → Measures (shorter_of (shorter_of (shorter_of (shorter_of None (case_path ends Rsr)) (case_path ends Rsl)) (case_path ends Lsr)) (case_path ends Lsl)) n
 outer-first ends n =
-    let one = shorter_of None (case_path ends 1) in
-    let two = case_path ends 2 in
-    let three = case_path ends 3 in
-    let four = case_path ends 4 in
+    let one = shorter_of None (case_path ends Rsr) in
+    let two = case_path ends Rsl in
+    let three = case_path ends Lsr in
+    let four = case_path ends Lsl in
     let tried = shorter_of (shorter_of (shorter_of one four) two) three in
     let last = shorter_of (shorter_of (shorter_of one two) three) four in
     same-measures tried last n

@@ -17,6 +17,7 @@ use Rattle.course.proofs.VectorLaws.{near_le}
 use Rattle.course.proofs.OffsetLaws.{offset_near as offset-within}
 use Rattle.plane.specs.Level.{plus, square_of, sideways_of}
 use Rattle.plane.proofs.LevelLaws.{plus-near, square_le}
+use Rattle.dubins.specs.declared.Case.{Case}
 use Rattle.dubins.specs.declared.Way.{Way}
 use Rattle.dubins.specs.Limits.{IsPath, IsFound}
 use Rattle.dubins.specs.Cases.{starts_right, ends_right, same_side, straight_of, inner_tangent, touch_of}
@@ -35,8 +36,6 @@ pub path-is : (R : ℕ) (w : Way) → IsWay w → R ≤ 10000 → IsPath (path_a
 unfolding path_along
 path-is R w h r =
     record {
-      least = h.least;
-      most = h.most;
       course = h.course;
       length = h.length;
       start = h.start;
@@ -51,7 +50,7 @@ found-is R (Some w) h r = path-is R w h r
 found-is R None h r = tt
 
 -- v·v is at most 2·1,020,000², and the straight part is its root or that of less
-pub straight-le : (case R : ℕ) (v : Vector) → Near 1020000 v → straight_of case R v ≤ 1442497
+pub straight-le : (case : Case) (R : ℕ) (v : Vector) → Near 1020000 v → straight_of case R v ≤ 1442497
 unfolding straight_of choose
 straight-le case R v h = by_side (same_side case)
   where

@@ -10,12 +10,14 @@ use lib.Dec.{leb}
 use borrow.Author.Tests.{leb-true, leb-false, le-leb, lt-leb}
 use Rattle.conditions.specs.Choose.{choose}
 use Rattle.conditions.proofs.ChooseLaws.{choose-true, choose-false}
+use Rattle.dubins.specs.declared.Case.{Case}
+use Rattle.dubins.specs.declared.Case.TheVariants.{Rsr, Rsl, Lsr, Lsl}
 use Rattle.dubins.specs.declared.Ends.{Ends}
 use Rattle.dubins.specs.declared.Circles.{Circles}
 use Rattle.dubins.specs.declared.Path.{Path}
-use Rattle.dubins.specs.Cases.{circles_of, case_exists, straight_of, straight_course, path_of}
+use Rattle.dubins.specs.Cases.{number_of, circles_of, case_exists, straight_of, straight_course, path_of}
 use Rattle.dubins.specs.Choice.{case_path, shorter_of, shortest_of, found_length, has_path_of, Wins, IsShortest, Chosen}
-use Rattle.dubins.specs.Ways.{no_length, Measures, shortest_to}
+use Rattle.dubins.specs.Ways.{no_length, Measures}
 
 -- ---- of two paths
 module _ (p q : Path) where
@@ -33,9 +35,10 @@ only-later None = refl
 only-later (Some q) = refl
 
 -- ---- the cases one after another
-pub shortest-all : (ends : Ends) → shortest_to ends 4 ≡ shortest_of ends
-unfolding shortest_to shortest_of
-shortest-all ends = ap (λ (f : Option Path). shorter_of (shorter_of (shorter_of f (case_path ends 2)) (case_path ends 3)) (case_path ends 4)) (only-later (case_path ends 1))
+pub shortest-all : (ends : Ends)
+    → shorter_of (shorter_of (shorter_of (shorter_of None (case_path ends Rsr)) (case_path ends Rsl)) (case_path ends Lsr)) (case_path ends Lsl) ≡ shortest_of ends
+unfolding shortest_of
+shortest-all ends = ap (λ (f : Option Path). shorter_of (shorter_of (shorter_of f (case_path ends Rsl)) (case_path ends Lsr)) (case_path ends Lsl)) (only-later (case_path ends Rsr))
 
 pub earlier-stays : (f : Option Path) (best : ℕ) → Measures f best → (p : Path) (m : ℕ) → m < no_length → best ≤ m → m ≤ p.length → shorter_of f (Some p) ≡ f
 earlier-stays None best e p m b h l = absurd (omega (arith, e))
@@ -70,7 +73,7 @@ measures-none None best k h = refl
 measures-none (Some p) best k h = absurd (omega (arith, k.1))
 
 -- ---- one case, from its parts
-module _ (ends : Ends) (case : ℕ) where
+module _ (ends : Ends) (case : Case) where
   pub case-there : (circles : Circles) (s θ : ℕ) → case_exists ends case ≡ true → circles ≡ circles_of ends case → s ≡ straight_of case ends.radius circles.v → θ ≡ straight_course case ends.radius s circles.v → case_path ends case ≡ Some (path_of ends case circles s θ)
   unfolding case_path choose
   case-there circles s θ h e k l = simp (h, l, k, e)
@@ -101,7 +104,7 @@ shorter-found None None = refl
 shorter-found None (Some q) = refl
 shorter-found (Some p) (Some q) = either (leb p.length q.length) p q
 
-case-found : (ends : Ends) (case : ℕ) → is_found (case_path ends case) ≡ case_exists ends case
+case-found : (ends : Ends) (case : Case) → is_found (case_path ends case) ≡ case_exists ends case
 unfolding case_path
 case-found ends case = by-test (case_exists ends case) _
 
@@ -127,105 +130,131 @@ missing-when ends h = missing-is (shortest_of ends) (has-path ends ∙ h)
 none : {q : Path} {A : Type 0} → ◌≡◌ {A = Option Path} None (Some q) → A
 none e = absurd (true≢false (sym (ap is_found e)))
 
-abbrev case_in : Option Path → ℕ
+abbrev case_in : Option Path → Case
 case_in (Some p) = p.case
-case_in None = 0
+case_in None = Rsr
 
 abbrev length_in : Option Path → ℕ
 length_in (Some p) = p.length
 length_in None = 0
 
-number_by : (case : ℕ) (t : Bool) (p q : Path) → p.case ≡ case → choose t (Some p) None ≡ Some q → q.case ≡ case
+case_by : (case : Case) (t : Bool) (p q : Path) → p.case ≡ case → choose t (Some p) None ≡ Some q → q.case ≡ case
 unfolding choose
-number_by case true p q k e = sym (ap case_in e) ∙ k
-number_by case false p q k e = none e
+case_by case true p q k e = sym (ap case_in e) ∙ k
+case_by case false p q k e = none e
+
+-- ---- cases by their numbers
+abbrev case_of : ℕ → Case
+case_of n = choose (leb n 1) Rsr (choose (leb n 2) Rsl (choose (leb n 3) Lsr Lsl))
+
+by-number : (case : Case) → case_of (number_of case) ≡ case
+unfolding choose
+by-number Rsr = refl
+by-number Rsl = refl
+by-number Lsr = refl
+by-number Lsl = refl
+
+same-number : (a b : Case) → number_of a ≡ number_of b → a ≡ b
+same-number a b e = sym (by-number a) ∙ ap case_of e ∙ by-number b
+
+number-low : (case : Case) → number_of case ≤ 4
+number-low Rsr = omega arith
+number-low Rsl = omega arith
+number-low Lsr = omega arith
+number-low Lsl = omega arith
+
+none-before : (case : Case) → number_of case ≤ 0 → ⊥
+none-before Rsr h = omega arith
+none-before Rsl h = omega arith
+none-before Lsr h = omega arith
+none-before Lsl h = omega arith
 
 module _ (ends : Ends) where
-  case-number : (case : ℕ) (q : Path) → case_path ends case ≡ Some q → q.case ≡ case
+  path-case : (case : Case) (q : Path) → case_path ends case ≡ Some q → q.case ≡ case
   unfolding case_path path_of
-  case-number case q e = number_by case (case_exists ends case) _ q refl e
+  path-case case q e = case_by case (case_exists ends case) _ q refl e
 
-  -- of the cases up to m, as Wins of all four
+  -- of the cases up to number m, as Wins of all four
   record Leads (m : ℕ) (p : Path) : Type 0 where
-    least : 1 ≤ p.case
-    most : p.case ≤ m
+    most : number_of p.case ≤ m
     own : case_path ends p.case ≡ Some p
-    shortest : (case : ℕ) (q : Path) → 1 ≤ case → case ≤ m → case_path ends case ≡ Some q → p.length ≤ q.length
-    earliest : (case : ℕ) (q : Path) → 1 ≤ case → case < p.case → case_path ends case ≡ Some q → p.length < q.length
+    shortest : (case : Case) (q : Path) → number_of case ≤ m → case_path ends case ≡ Some q → p.length ≤ q.length
+    earliest : (case : Case) (q : Path) → number_of case < number_of p.case → case_path ends case ≡ Some q → p.length < q.length
 
   abbrev Leading : ℕ → Option Path → Type 0
   Leading m (Some p) = Leads m p
-  Leading m None = (case : ℕ) → 1 ≤ case → case ≤ m → case_path ends case ≡ None
+  Leading m None = (case : Case) → number_of case ≤ m → case_path ends case ≡ None
 
-  module _ (m : ℕ) where
-    -- p leads on where case m + 1 is no shorter
-    kept : (p : Path) → Leads m p → ((q : Path) → case_path ends (suc m) ≡ Some q → p.length ≤ q.length) → Leads (suc m) p
+  module _ (m : ℕ) (next : Case) (number : number_of next ≡ suc m) where
+    -- p leads on where the next case is no shorter
+    kept : (p : Path) → Leads m p → ((q : Path) → case_path ends next ≡ Some q → p.length ≤ q.length) → Leads (suc m) p
     kept p l h =
         record {
-          least = l.least;
           most = omega (arith, l.most);
           own = l.own;
-          shortest = λ case q a b e. by-dec case q a b e (dec_lt case (suc m));
+          shortest = λ case q a e. by-dec case q a e (dec_lt (number_of case) (suc m));
           earliest = l.earliest;
         }
       where
-        by-dec : (case : ℕ) (q : Path) → 1 ≤ case → case ≤ suc m → case_path ends case ≡ Some q → Dec (case < suc m) → p.length ≤ q.length
-        by-dec case q a b e (yes d) = l.shortest case q a (omega arith) e
-        by-dec case q a b e (no d) = h q (ap (case_path ends) {x = suc m} {y = case} (omega arith) ∙ e)
+        by-dec : (case : Case) (q : Path) → number_of case ≤ suc m → case_path ends case ≡ Some q → Dec (number_of case < suc m) → p.length ≤ q.length
+        by-dec case q a e (yes d) = l.shortest case q (omega arith) e
+        by-dec case q a e (no d) = h q (ap (case_path ends) (same-number next case (omega (arith, number))) ∙ e)
 
-    -- and case m + 1 does where it is shorter than all before it
-    taken : (p : Path) → case_path ends (suc m) ≡ Some p → ((case : ℕ) (q : Path) → 1 ≤ case → case ≤ m → case_path ends case ≡ Some q → p.length < q.length) → Leads (suc m) p
+    -- and the next case does where it is shorter than all before it
+    taken : (p : Path) → case_path ends next ≡ Some p → ((case : Case) (q : Path) → number_of case ≤ m → case_path ends case ≡ Some q → p.length < q.length) → Leads (suc m) p
     taken p k h =
-        let n = case-number (suc m) p k in
+        let n : number_of p.case ≡ suc m = ap number_of (path-case next p k) ∙ number in
         record {
-          least = omega (arith, n);
           most = omega (arith, n);
-          own = ap (case_path ends) n ∙ k;
-          shortest = λ case q a b e. by-dec case q a b e (dec_lt case (suc m));
-          earliest = λ case q a b e. omega (arith, h case q a (omega (arith, n)) e);
+          own = ap (case_path ends) (path-case next p k) ∙ k;
+          shortest = λ case q a e. by-dec case q a e (dec_lt (number_of case) (suc m));
+          earliest = λ case q a e. h case q (omega (arith, n)) e;
         }
       where
-        by-dec : (case : ℕ) (q : Path) → 1 ≤ case → case ≤ suc m → case_path ends case ≡ Some q → Dec (case < suc m) → p.length ≤ q.length
-        by-dec case q a b e (yes d) = omega (arith, h case q a (omega arith) e)
-        by-dec case q a b e (no d) = omega (arith, ap length_in (sym k ∙ ap (case_path ends) {x = suc m} {y = case} (omega arith) ∙ e))
+        by-dec : (case : Case) (q : Path) → number_of case ≤ suc m → case_path ends case ≡ Some q → Dec (number_of case < suc m) → p.length ≤ q.length
+        by-dec case q a e (yes d) = omega (arith, h case q (omega arith) e)
+        by-dec case q a e (no d) = omega (arith, ap length_in (sym k ∙ ap (case_path ends) (same-number next case (omega (arith, number))) ∙ e))
 
-    by_length : (p q : Path) (t : Bool) → leb p.length q.length ≡ t → case_path ends (suc m) ≡ Some q → Leads m p → Leading (suc m) (choose t (Some p) (Some q))
+    by_length : (p q : Path) (t : Bool) → leb p.length q.length ≡ t → case_path ends next ≡ Some q → Leads m p → Leading (suc m) (choose t (Some p) (Some q))
     unfolding choose
     by_length p q true e k l = kept p l (λ r s. omega (arith, leb-true p.length q.length e, ap length_in (sym k ∙ s)))
-    by_length p q false e k l = taken q k (λ case r a b s. omega (arith, leb-false p.length q.length e, l.shortest case r a b s))
+    by_length p q false e k l = taken q k (λ case r a s. omega (arith, leb-false p.length q.length e, l.shortest case r a s))
 
-    still-none : case_path ends (suc m) ≡ None → Leading m None → (case : ℕ) → 1 ≤ case → case ≤ suc m → Dec (case < suc m) → case_path ends case ≡ None
-    still-none k l case a b (yes d) = l case a (omega arith)
-    still-none k l case a b (no d) = ap (case_path ends) {x = case} {y = suc m} (omega arith) ∙ k
+    still-none : case_path ends next ≡ None → Leading m None → (case : Case) → number_of case ≤ suc m → Dec (number_of case < suc m) → case_path ends case ≡ None
+    still-none k l case a (yes d) = l case (omega arith)
+    still-none k l case a (no d) = ap (case_path ends) (same-number case next (omega (arith, number))) ∙ k
 
-    step : (a b : Option Path) → case_path ends (suc m) ≡ b → Leading m a → Leading (suc m) (shorter_of a b)
+    step : (a b : Option Path) → case_path ends next ≡ b → Leading m a → Leading (suc m) (shorter_of a b)
     unfolding shorter_of
-    step None None k l = λ case a b. still-none k l case a b (dec_lt case (suc m))
+    step None None k l = λ case a. still-none k l case a (dec_lt (number_of case) (suc m))
     step (Some p) None k l = kept p l (λ q e. none (sym k ∙ e))
-    step None (Some q) k l = taken q k (λ case r a b e. none (sym (l case a b) ∙ e))
+    step None (Some q) k l = taken q k (λ case r a e. none (sym (l case a) ∙ e))
     step (Some p) (Some q) k l = by_length p q (leb p.length q.length) refl k l
 
   leading : Leading 4 (shortest_of ends)
   unfolding shortest_of
   leading =
-      step 3 _ _ refl (step 2 _ _ refl (step 1 _ _ refl (subst (Leading 1) (only-later (case_path ends 1)) (step 0 None _ refl (λ case a b. absurd (omega arith))))))
+      step 3 Lsl refl _ _ refl
+      (step 2 Lsr refl _ _ refl
+      (step 1 Rsl refl _ _ refl
+      (subst (Leading 1) (only-later (case_path ends Rsr)) (step 0 Rsr refl None _ refl (λ case a. absurd (none-before case a))))))
 
   all-four : (f : Option Path) → Leading 4 f → IsShortest ends f
-  all-four (Some p) l = record { least = l.least; most = l.most; own = l.own; shortest = l.shortest; earliest = l.earliest }
-  all-four None l = l
+  all-four (Some p) l = record { own = l.own; shortest = λ case q e. l.shortest case q (number-low case) e; earliest = l.earliest }
+  all-four None l = λ case. l case (number-low case)
 
   pub shortest-is : IsShortest ends (shortest_of ends)
   shortest-is = all-four (shortest_of ends) leading
 
-  wins-once : (p q : Path) → Wins ends p → Wins ends q → Dec (p.case < q.case) → Dec (q.case < p.case) → Some p ≡ Some q
-  wins-once p q v w (yes d) e = absurd (omega (arith, w.earliest p.case p v.least d v.own, v.shortest q.case q w.least w.most w.own))
-  wins-once p q v w (no d) (yes e) = absurd (omega (arith, v.earliest q.case q w.least e w.own, w.shortest p.case p v.least v.most v.own))
-  wins-once p q v w (no d) (no e) = sym v.own ∙ ap (case_path ends) {x = p.case} {y = q.case} (omega arith) ∙ w.own
+  wins-once : (p q : Path) → Wins ends p → Wins ends q → Dec (number_of p.case < number_of q.case) → Dec (number_of q.case < number_of p.case) → Some p ≡ Some q
+  wins-once p q v w (yes d) e = absurd (omega (arith, w.earliest p.case p d v.own, v.shortest q.case q w.own))
+  wins-once p q v w (no d) (yes e) = absurd (omega (arith, v.earliest q.case q e w.own, w.shortest p.case p v.own))
+  wins-once p q v w (no d) (no e) = sym v.own ∙ ap (case_path ends) (same-number p.case q.case (omega arith)) ∙ w.own
 
   pub shortest-only : (f g : Option Path) → IsShortest ends f → IsShortest ends g → f ≡ g
-  shortest-only (Some p) (Some q) v w = wins-once p q v w (dec_lt p.case q.case) (dec_lt q.case p.case)
-  shortest-only (Some p) None v w = none (sym (w p.case v.least v.most) ∙ v.own)
-  shortest-only None (Some q) v w = none (sym (v q.case w.least w.most) ∙ w.own)
+  shortest-only (Some p) (Some q) v w = wins-once p q v w (dec_lt (number_of p.case) (number_of q.case)) (dec_lt (number_of q.case) (number_of p.case))
+  shortest-only (Some p) None v w = none (sym (w p.case) ∙ v.own)
+  shortest-only None (Some q) v w = none (sym (v q.case) ∙ w.own)
   shortest-only None None v w = refl
 
   pub chosen : (r : Option Path) → r ≡ shortest_of ends → Chosen ends r

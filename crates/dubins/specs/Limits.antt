@@ -22,8 +22,6 @@ pub record IsCircles (c : Circles) : Type 0 where
 
 -- z1 and z2 lie a radius from their centres; the length is at most the root of 2·1,020,000² and an arc of two turns
 pub record IsPath (p : Path) : Type 0 where
-  pub least : 1 ≤ p.case
-  pub most : p.case ≤ 4
   pub course : p.course < 4096
   pub length : p.length ≤ 1568130
   pub start : Near 510000 p.start

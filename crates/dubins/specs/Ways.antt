@@ -1,15 +1,13 @@
 -- No clause: what `shortest_path` works with, tied to Cases and Choice: both centres at an end, and a path without z1 and z2. For proofs alone:
 -- no contract of a public function cites it. Assumes nothing.
-use Rattle.std.specs.Prelude.{◌≡◌, true, false, ℕ, zero, suc, ◌≤◌, ◌<◌, Option, Some, None}
+use Rattle.std.specs.Prelude.{◌≡◌, true, false, ℕ, ◌≤◌, ◌<◌, Option, Some, None}
 use Rattle.std.specs.Option.{option_map}
 use Rattle.course.specs.Vectors.{Near}
 use Rattle.plane.specs.declared.Point.{Point}
 use Rattle.dubins.specs.declared.Centres.{Centres}
-use Rattle.dubins.specs.declared.Ends.{Ends}
 use Rattle.dubins.specs.declared.Path.{Path}
 use Rattle.dubins.specs.declared.Way.{Way}
 use Rattle.dubins.specs.Cases.{starts_right, ends_right, centre_of, touch_of}
-use Rattle.dubins.specs.Choice.{case_path, shorter_of}
 
 -- both centres at a point with a course, each a radius away
 pub record AreCentres (p : Point) (R χ : ℕ) (c : Centres) : Type 0 where
@@ -20,8 +18,6 @@ pub record AreCentres (p : Point) (R χ : ℕ) (c : Centres) : Type 0 where
 
 -- the bounds of a path without z1 and z2, which are those of IsPath
 pub record IsWay (w : Way) : Type 0 where
-  pub least : 1 ≤ w.case
-  pub most : w.case ≤ 4
   pub course : w.course < 4096
   pub length : w.length ≤ 1568130
   pub start : Near 510000 w.start
@@ -54,8 +50,3 @@ no_length = 2000000
 abbrev pub Measures : Option Path → ℕ → Type 0
 Measures (Some path) n = (n ≡ path.length) × (n < no_length)
 Measures None n = n ≡ no_length
-
--- the shortest of the first k cases
-unfoldable pub shortest_to : Ends → ℕ → Option Path
-shortest_to ends zero = None
-shortest_to ends (suc k) = shorter_of (shortest_to ends k) (case_path ends (suc k))

@@ -16,6 +16,38 @@ ghost use Rattle.dubins.specs.Ways.{AreCentres, IsWay, IsTried, path_along, foun
 use course::Vector;
 use plane::Point;
 
+// The cases of a leg, in the rules' order: the side of the circle at the start, a straight part, the side of the circle at the end.
+#[derive(Clone, Copy, PartialEq, Eq)]
+pub enum Case {
+    Rsr,
+    Rsl,
+    Lsr,
+    Lsl,
+}
+
+impl Case {
+    // Whether the circle at the start is a right one.
+    pub fn starts_right(self) -> bool
+        ensures { result ≡ starts_right self }
+    {
+        matches!(self, Case::Rsr | Case::Rsl)
+    }
+
+    // Whether the circle at the end is a right one.
+    pub fn ends_right(self) -> bool
+        ensures { result ≡ ends_right self }
+    {
+        matches!(self, Case::Rsr | Case::Lsr)
+    }
+
+    // Whether both circles lie on the same side.
+    fn same_side(self) -> bool
+        ensures { result ≡ same_side self }
+    {
+        self.starts_right() == self.ends_right()
+    }
+}
+
 // The ends of a leg: its points, the courses to leave and to arrive on, the radius of the circles.
 #[derive(Clone, Copy)]
 pub struct Ends {
@@ -41,11 +73,10 @@ struct Circles {
     v: Vector,
 }
 
-// A leg by one case, 1 to 4 for RSR, RSL, LSR, LSL: the centres of its circles, the course of the straight part from z1 to z2, the
-// length of the whole.
+// A leg by one case: the centres of its circles, the course of the straight part from z1 to z2, the length of the whole.
 #[derive(Clone, Copy)]
 pub struct Path {
-    pub case: u8,
+    pub case: Case,
     pub course: usize,
     pub length: u64,
     pub start: Vector,
@@ -57,7 +88,7 @@ pub struct Path {
 // A path without z1 and z2, which only the shortest needs.
 #[derive(Clone, Copy)]
 struct Way {
-    case: u8,
+    case: Case,
     course: usize,
     length: u64,
     start: Vector,
@@ -66,31 +97,6 @@ struct Way {
 
 // More than a leg is long by any case.
 const NO_LENGTH: u64 = 2000000;
-
-// Whether the start circle of a case is a right one: RSR and RSL.
-pub fn starts_right(case: u8) -> bool
-    ensures { result ≡ starts_right case }
-{
-    case <= 2
-}
-
-// Whether the end circle of a case is a right one: RSR and LSR.
-pub fn ends_right(case: u8) -> bool
-    ensures { result ≡ ends_right case }
-{
-    case % 2 == 1
-}
-
-// Whether both circles of a case lie on the same side: RSR and LSL.
-fn same_side(case: u8) -> bool
-    ensures { result ≡ same_side case }
-{
-    if starts_right(case) {
-        ends_right(case)
-    } else {
-        !ends_right(case)
-    }
-}
 
 // The centre of the circle to the right or to the left of a point with a course.
 fn centre(p: Point, radius: u64, course: usize, right: bool) -> Vector
@@ -113,14 +119,14 @@ fn circles_at(start: Vector, end: Vector) -> Circles
 }
 
 // The circles of a case of a leg.
-fn circles_of(ends: Ends, case: u8) -> Circles
+fn circles_of(ends: Ends, case: Case) -> Circles
     requires { IsEnds ends }
     ensures { (result ≡ circles_of ends case) × IsCircles result }
 {
     let from = ends.start;
     let to = ends.end;
-    let start = centre(from, ends.radius, ends.leave, starts_right(case));
-    let end = centre(to, ends.radius, ends.arrive, ends_right(case));
+    let start = centre(from, ends.radius, ends.leave, case.starts_right());
+    let end = centre(to, ends.radius, ends.arrive, case.ends_right());
     circles_at(start, end)
 }
 
@@ -142,12 +148,12 @@ fn centre_on(centres: Centres, right: bool) -> Vector
 }
 
 // Whether the circles of a case, v apart, have the tangent that it flies along.
-fn tangent_exists(v: Vector, radius: u64, case: u8) -> bool
+fn tangent_exists(v: Vector, radius: u64, case: Case) -> bool
     requires { Near 1020000 v × (radius ≤ 10000) }
     ensures { result ≡ tangent_exists case radius v }
 {
     let square = plane::squared(v);
-    if same_side(case) {
+    if case.same_side() {
         0 < square
     } else {
         4 * radius * radius <= square
@@ -155,12 +161,12 @@ fn tangent_exists(v: Vector, radius: u64, case: u8) -> bool
 }
 
 // The length of the straight part. Where the case exists, the root is of no negative number.
-fn straight(v: Vector, radius: u64, case: u8) -> u64
+fn straight(v: Vector, radius: u64, case: Case) -> u64
     requires { Near 1020000 v × ((radius ≤ 10000) × (tangent_exists case radius v ≡ true)) }
     ensures { (result ≡ straight_of case radius v) × (result ≤ 1442497) }
 {
     let square = plane::squared(v);
-    if same_side(case) {
+    if case.same_side() {
         integers::root(square)
     } else {
         integers::root(square - 4 * radius * radius)
@@ -188,14 +194,14 @@ fn inner_tangent(v: Vector, s: u64, radius: u64, right: bool) -> Vector
 }
 
 // The course of the straight part of length s.
-fn straight_course(v: Vector, s: u64, radius: u64, case: u8) -> usize
+fn straight_course(v: Vector, s: u64, radius: u64, case: Case) -> usize
     requires { Near 1020000 v × ((s ≤ 1442497) × (radius ≤ 10000)) }
     ensures { (result ≡ straight_course case radius s v) × (result < 4096) }
 {
-    if same_side(case) {
+    if case.same_side() {
         course::bearing(v)
     } else {
-        course::bearing(inner_tangent(v, s, radius, starts_right(case)))
+        course::bearing(inner_tangent(v, s, radius, case.starts_right()))
     }
 }
 
@@ -222,18 +228,18 @@ fn touch(centre: Vector, radius: u64, course: usize, right: bool) -> Vector
 }
 
 // The length of a case with its two arcs, from the length and the course of its straight part.
-fn case_length(ends: Ends, case: u8, s: u64, course: usize) -> u64
+fn case_length(ends: Ends, case: Case, s: u64, course: usize) -> u64
     requires { IsEnds ends × ((s ≤ 1442497) × (course < 4096)) }
     ensures { (result ≡ case_length ends case s course) × (result ≤ 1568130) }
 {
-    let start_turn = turn(ends.leave, course, starts_right(case));
-    let end_turn = turn(course, ends.arrive, ends_right(case));
+    let start_turn = turn(ends.leave, course, case.starts_right());
+    let end_turn = turn(course, ends.arrive, case.ends_right());
     s + plane::arc(ends.radius, start_turn + end_turn)
 }
 
 // The way of a case, from its circles and the length and the course of its straight part.
-fn way_of(ends: Ends, case: u8, circles: Circles, s: u64, course: usize) -> Way
-    requires { (IsEnds ends × ((1 ≤ case) × (case ≤ 4))) × (IsCircles circles × ((s ≤ 1442497) × (course < 4096))) }
+fn way_of(ends: Ends, case: Case, circles: Circles, s: u64, course: usize) -> Way
+    requires { IsEnds ends × (IsCircles circles × ((s ≤ 1442497) × (course < 4096))) }
     ensures { (path_along ends.radius result ≡ path_of ends case circles s course) × IsWay result }
 {
     let start = circles.start;
@@ -249,7 +255,7 @@ fn way_of(ends: Ends, case: u8, circles: Circles, s: u64, course: usize) -> Way
 }
 
 // Whether a case of a leg exists.
-fn case_exists(ends: Ends, case: u8) -> bool
+fn case_exists(ends: Ends, case: Case) -> bool
     requires { IsEnds ends }
     ensures { result ≡ case_exists ends case }
 {
@@ -283,14 +289,14 @@ fn length_before(best: Option<Way>) -> u64
 
 // What both turns of a case come to at least, whatever the course between them: the turn from course to course on the side of both circles, and
 // between circles on either side the lesser of the two.
-fn least_turn(ends: Ends, case: u8) -> u64
+fn least_turn(ends: Ends, case: Case) -> u64
     requires { IsEnds ends }
     ensures { ((θ : ℕ) → θ < 4096 → result ≤ arc_turn ends.leave θ (starts_right case) + arc_turn θ ends.arrive (ends_right case)) × (result < 4096) }
 {
     let right = turn(ends.leave, ends.arrive, true);
     let left = turn(ends.leave, ends.arrive, false);
-    if same_side(case) {
-        if starts_right(case) { right } else { left }
+    if case.same_side() {
+        if case.starts_right() { right } else { left }
     } else {
         if right < left { right } else { left }
     }
@@ -298,7 +304,7 @@ fn least_turn(ends: Ends, case: u8) -> u64
 
 // Whether the straight part of a case with v between its centres and its arcs are as long as a length. Squares are compared, so that no root is
 // worked out.
-fn as_long(length: u64, arcs: u64, v: Vector, radius: u64, case: u8) -> bool
+fn as_long(length: u64, arcs: u64, v: Vector, radius: u64, case: Case) -> bool
     requires { (length ≤ no_length) × (Near 1020000 v × (radius ≤ 10000)) }
     ensures { result ≡ leb length (straight_of case radius v + arcs) }
 {
@@ -306,7 +312,7 @@ fn as_long(length: u64, arcs: u64, v: Vector, radius: u64, case: u8) -> bool
         return true;
     }
     let rest = length - arcs;
-    if same_side(case) {
+    if case.same_side() {
         rest * rest <= plane::squared(v)
     } else {
         rest * rest + 4 * radius * radius <= plane::squared(v)
@@ -315,7 +321,7 @@ fn as_long(length: u64, arcs: u64, v: Vector, radius: u64, case: u8) -> bool
 
 // Whether a case with v between its centres is seen without a root to be no shorter than a length: by the least that its turns come to, and where both
 // circles lie on the same side, so that its course needs no root, by its own arcs.
-fn no_shorter(length: u64, ends: Ends, v: Vector, case: u8) -> bool
+fn no_shorter(length: u64, ends: Ends, v: Vector, case: Case) -> bool
     requires { IsEnds ends × Near 1020000 v }
     ensures { result ≡ true → (length < no_length) × (length ≤ case_length ends case (straight_of case ends.radius v) (straight_course case ends.radius (straight_of case ends.radius v) v)) }
 {
@@ -331,7 +337,7 @@ fn no_shorter(length: u64, ends: Ends, v: Vector, case: u8) -> bool
     ) {
         return true;
     }
-    if same_side(case) {
+    if case.same_side() {
         return as_long(
             length,
             case_length(ends, case, 0, course::bearing(v)),
@@ -345,14 +351,14 @@ fn no_shorter(length: u64, ends: Ends, v: Vector, case: u8) -> bool
 
 // The shorter of what was found before and a case, from both centres at each end. Roots and bearings are dear, so those of a case that is seen not to
 // win are not worked out.
-fn better(best: Option<Way>, ends: Ends, from: Centres, to: Centres, case: u8) -> Option<Way>
-    requires tried { IsTried best × (IsEnds ends × ((1 ≤ case) × (case ≤ 4))) }
+fn better(best: Option<Way>, ends: Ends, from: Centres, to: Centres, case: Case) -> Option<Way>
+    requires tried { IsTried best × IsEnds ends }
     requires are_centres { AreCentres ends.start ends.radius ends.leave from }
     requires are_centres_2 { AreCentres ends.end ends.radius ends.arrive to }
     ensures { (found_by ends.radius result ≡ shorter_of (found_by ends.radius best) (case_path ends case)) × IsTried result }
 {
-    let start = centre_on(from, starts_right(case));
-    let end = centre_on(to, ends_right(case));
+    let start = centre_on(from, case.starts_right());
+    let end = centre_on(to, case.ends_right());
     let circles = circles_at(start, end);
     let v = circles.v;
     if !tangent_exists(v, ends.radius, case) {
@@ -373,8 +379,8 @@ fn path_along(way: Way, radius: u64) -> Path
 {
     let start = way.start;
     let end = way.end;
-    let z1 = touch(start, radius, way.course, starts_right(way.case));
-    let z2 = touch(end, radius, way.course, ends_right(way.case));
+    let z1 = touch(start, radius, way.course, way.case.starts_right());
+    let z2 = touch(end, radius, way.course, way.case.ends_right());
     Path {
         case: way.case,
         course: way.course,
@@ -405,22 +411,22 @@ pub fn shortest_path(ends: Ends) -> Option<Path>
     let end = ends.end;
     let from = both_centres(start, ends.radius, ends.leave);
     let to = both_centres(end, ends.radius, ends.arrive);
-    let rsr = better(None, ends, from, to, 1);
-    let rsl = better(rsr, ends, from, to, 2);
-    let lsr = better(rsl, ends, from, to, 3);
-    let lsl = better(lsr, ends, from, to, 4);
+    let rsr = better(None, ends, from, to, Case::Rsr);
+    let rsl = better(rsr, ends, from, to, Case::Rsl);
+    let lsr = better(rsl, ends, from, to, Case::Lsr);
+    let lsl = better(lsr, ends, from, to, Case::Lsl);
     found_by(lsl, ends.radius)
 }
 
 // The lesser of a length and that of a case, from both centres at each end; a case that does not exist has none.
-fn better_length(best: u64, ends: Ends, from: Centres, to: Centres, case: u8) -> u64
-    requires ends { IsEnds ends × ((1 ≤ case) × (case ≤ 4)) }
+fn better_length(best: u64, ends: Ends, from: Centres, to: Centres, case: Case) -> u64
+    requires ends { IsEnds ends }
     requires are_centres { AreCentres ends.start ends.radius ends.leave from }
     requires are_centres_2 { AreCentres ends.end ends.radius ends.arrive to }
     ensures { (f : Option Path) → Measures f best → Measures (shorter_of f (case_path ends case)) result }
 {
-    let start = centre_on(from, starts_right(case));
-    let end = centre_on(to, ends_right(case));
+    let start = centre_on(from, case.starts_right());
+    let end = centre_on(to, case.ends_right());
     let circles = circles_at(start, end);
     let v = circles.v;
     if !tangent_exists(v, ends.radius, case) {
@@ -449,14 +455,14 @@ fn outer_length(ends: Ends, from: Centres, to: Centres) -> u64
     requires ends { IsEnds ends }
     requires are_centres { AreCentres ends.start ends.radius ends.leave from }
     requires are_centres_2 { AreCentres ends.end ends.radius ends.arrive to }
-    ensures { Measures (shorter_of (shorter_of None (case_path ends 1)) (case_path ends 4)) result }
+    ensures { Measures (shorter_of (shorter_of None (case_path ends Case.Rsr)) (case_path ends Case.Lsl)) result }
 {
     if left_nearer(from, to) {
-        let lsl = better_length(NO_LENGTH, ends, from, to, 4);
-        better_length(lsl, ends, from, to, 1)
+        let lsl = better_length(NO_LENGTH, ends, from, to, Case::Lsl);
+        better_length(lsl, ends, from, to, Case::Rsr)
     } else {
-        let rsr = better_length(NO_LENGTH, ends, from, to, 1);
-        better_length(rsr, ends, from, to, 4)
+        let rsr = better_length(NO_LENGTH, ends, from, to, Case::Rsr);
+        better_length(rsr, ends, from, to, Case::Lsl)
     }
 }
 
@@ -471,8 +477,8 @@ pub fn shortest_length(ends: Ends) -> u64
     let from = both_centres(start, ends.radius, ends.leave);
     let to = both_centres(end, ends.radius, ends.arrive);
     let outer = outer_length(ends, from, to);
-    let rsl = better_length(outer, ends, from, to, 2);
-    let best = better_length(rsl, ends, from, to, 3);
+    let rsl = better_length(outer, ends, from, to, Case::Rsl);
+    let best = better_length(rsl, ends, from, to, Case::Lsr);
     if best < NO_LENGTH { best } else { 0 }
 }
 
@@ -482,16 +488,10 @@ pub fn has_path(ends: Ends) -> bool
     ensures value { result ≡ has_path_of ends }
     ensures existence { Existence ends }
 {
-    if case_exists(ends, 1) {
-        return true;
-    }
-    if case_exists(ends, 2) {
-        return true;
-    }
-    if case_exists(ends, 3) {
-        return true;
-    }
-    case_exists(ends, 4)
+    case_exists(ends, Case::Rsr)
+        || case_exists(ends, Case::Rsl)
+        || case_exists(ends, Case::Lsr)
+        || case_exists(ends, Case::Lsl)
 }
 
 // Whether the squared distance in north and east is at least 9 R².

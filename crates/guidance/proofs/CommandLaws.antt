@@ -1,4 +1,5 @@
 -- Every guide function commands a line or a circle, of plain numbers. Assumes nothing.
+use Rattle.std.proofs.Common.{Option, Some, None}
 use mathlib.Core.Path.{◌≡◌, subst}
 use mathlib.Core.Bool.{Bool, true, false}
 use Prim.Native.Nat.{ℕ, ◌+◌, ◌≤◌}
@@ -22,9 +23,9 @@ use Rattle.units.proofs.QuotientLaws.{metres-plain, direction-plain}
 use Rattle.fillets.specs.Corners.{corner_turn, corner_of}
 use Rattle.fillets.proofs.TangentLaws.{tangent-le}
 use Rattle.fillets.proofs.CornerLaws.{rounded-is}
+use Rattle.dubins.specs.declared.Case.{Case}
 use Rattle.dubins.specs.declared.Ends.{Ends}
 use Rattle.dubins.specs.declared.Path.{Path}
-use Rattle.std.proofs.Common.{Option, Some, None}
 use Rattle.dubins.specs.Cases.{starts_right, ends_right, centre_of, circles_of, case_exists, touch_of, path_of}
 use Rattle.dubins.specs.Choice.{case_path, shortest_of, Wins, IsShortest}
 use Rattle.dubins.proofs.ShortestLaws.{shortest-is}
@@ -118,7 +119,7 @@ module _ (ends : Ends) (h : InArea ends.start) (k : InArea ends.end) (r : ends.r
   unfolding centre_of
   centre-of-near p χ right q = turned-near 500000 (level_of p) (sideways_of χ right) (level-near p q)
 
-  case-reaches : (case s θ : ℕ) → Reaches (path_of ends case (circles_of ends case) s θ)
+  case-reaches : (case : Case) (s θ : ℕ) → Reaches (path_of ends case (circles_of ends case) s θ)
   unfolding path_of circles_of touch_of
   case-reaches case s θ =
       let start = centre-of-near ends.start ends.leave (starts_right case) h in

@@ -33,15 +33,15 @@ circles_at-circles-requires c =
 
 pub no_shorter-requires : goal.no_shorter-requires
 no_shorter-requires c =
-    (c.requires.tried.1.0, c.circles_at-circles.ensures.1.v)
+    (c.requires.tried.1, c.circles_at-circles.ensures.1.v)
 
 pub straight-s-requires : goal.straight-s-requires
 straight-s-requires c =
-    (c.circles_at-circles.ensures.1.v, (c.requires.tried.1.0.radius, sym c.tangent_exists.ensures ∙ c.if-not-tangent_exists.false))
+    (c.circles_at-circles.ensures.1.v, (c.requires.tried.1.radius, sym c.tangent_exists.ensures ∙ c.if-not-tangent_exists.false))
 
 pub straight_course-course-requires : goal.straight_course-course-requires
 straight_course-course-requires c =
-    (c.circles_at-circles.ensures.1.v, (c.straight-s.ensures.1, c.requires.tried.1.0.radius))
+    (c.circles_at-circles.ensures.1.v, (c.straight-s.ensures.1, c.requires.tried.1.radius))
 
 pub way_of-requires : goal.way_of-requires
 way_of-requires c =

@@ -50,7 +50,7 @@ returns-then-not-tangent_exists c f e =
 
 pub no_shorter-requires : goal.no_shorter-requires
 no_shorter-requires c =
-    (c.requires.ends.0, c.circles_at-circles.ensures.1.v)
+    (c.requires.ends, c.circles_at-circles.ensures.1.v)
 
 pub returns-then-no_shorter : goal.returns-then-no_shorter
 returns-then-no_shorter c f e =
@@ -60,11 +60,11 @@ returns-then-no_shorter c f e =
 
 pub straight-s-requires : goal.straight-s-requires
 straight-s-requires c =
-    (c.circles_at-circles.ensures.1.v, (c.requires.ends.0.radius, sym c.tangent_exists.ensures ∙ c.if-not-tangent_exists.false))
+    (c.circles_at-circles.ensures.1.v, (c.requires.ends.radius, sym c.tangent_exists.ensures ∙ c.if-not-tangent_exists.false))
 
 pub straight_course-course-requires : goal.straight_course-course-requires
 straight_course-course-requires c =
-    (c.circles_at-circles.ensures.1.v, (c.straight-s.ensures.1, c.requires.ends.0.radius))
+    (c.circles_at-circles.ensures.1.v, (c.straight-s.ensures.1, c.requires.ends.radius))
 
 pub returns-then-length-best : goal.returns-then-length-best
 unfolding path_of
