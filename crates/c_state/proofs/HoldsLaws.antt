@@ -57,25 +57,3 @@ module _ (ws : List ℤ) (h : holds_state ws ≡ true) where
 
   pub phase-fits : {n : ℕ} → n ≡ word_at ws phase_place → Fits w8 n
   phase-fits e = record { fits = omega (arith, holds-means.phase) }
-
--- ---- the tests in turn, by what was read
-module _ (ws : List ℤ) where
-  pub no_mode : {m : ℕ} → m ≡ word_at ws mode_place → 2 < m → holds_state ws ≡ false
-  unfolding holds_state
-  no_mode e h = both-off _ _ (lt-leb (word_at ws mode_place) 2 (rw e at h))
-
-  pub no-radius : {r : ℕ} → r ≡ word_at ws radius_place → 65536 ≤ r → holds_state ws ≡ false
-  unfolding holds_state
-  no-radius e h = both-off-second _ _ (both-off _ _ (le-ltb (word_at ws radius_place) 65536 (rw e at h)))
-
-  pub no-phase : {p : ℕ} → p ≡ word_at ws phase_place → 256 ≤ p → holds_state ws ≡ false
-  unfolding holds_state
-  no-phase e h = both-off-second _ _ (both-off-second _ _ (both-off _ _ (le-ltb (word_at ws phase_place) 256 (rw e at h))))
-
-  pub last-test : {m r p : ℕ} → m ≡ word_at ws mode_place → m ≤ 2 → r ≡ word_at ws radius_place → r < 65536 → p ≡ word_at ws phase_place → p < 256
-      → holds_state ws ≡ leb (word_at ws finished_place) 1
-  unfolding holds_state
-  last-test e h f k g l =
-      both-on _ _ (le-leb (word_at ws mode_place) 2 (rw e at h))
-      ∙ both-on _ _ (lt-ltb (word_at ws radius_place) 65536 (rw f at k))
-      ∙ both-on _ _ (lt-ltb (word_at ws phase_place) 256 (rw g at l))
