@@ -48,11 +48,6 @@ const DUBINS_WORD: u32 = 2;
 // The word of a state that is finished.
 const FINISHED_WORD: u32 = 1;
 
-// One more than the greatest radius and the greatest phase of their types.
-const RADII: u32 = integers::TWO_BYTES;
-
-const PHASES: u32 = integers::ONE_BYTE as u32;
-
 // The mode of a word. No `try_from`: `mode_at` has a mode for every word, and `holds_state` refuses the others before.
 #[tactic(auto, unfolding(crate::specs::Stored::mode_at, conditions::specs::Choose::choose))]
 fn mode_at(word: u32) -> Mode
@@ -102,8 +97,8 @@ pub fn holds_state(words: &[i32]) -> bool
     ensures edges { Edges }
 {
     word_at(words, MODE_PLACE) <= DUBINS_WORD
-        && word_at(words, RADIUS_PLACE) < RADII
-        && word_at(words, PHASE_PLACE) < PHASES
+        && u16::try_from(word_at(words, RADIUS_PLACE)).is_ok()
+        && u8::try_from(word_at(words, PHASE_PLACE)).is_ok()
         && word_at(words, FINISHED_PLACE) <= FINISHED_WORD
 }
 
