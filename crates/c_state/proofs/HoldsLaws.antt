@@ -1,15 +1,14 @@
 -- What words that hold a state hold, test by test. Assumes nothing.
-use mathlib.Core.Path.{◌≡◌, ◌∙◌}
-use mathlib.Core.Bool.{true, false}
+use mathlib.Core.Path.{◌≡◌}
+use mathlib.Core.Bool.{true}
 use mathlib.Core.List.{List}
 use Prim.Native.Nat.{ℕ, zero, suc, ◌≤◌, ◌<◌}
 use native.Mathlib.Omega.{arith}
 use lib.IntN.{ℤ}
 use mir.Syntax.{w8, w16, w32}
 use mir.Val.{Fits, SFits}
-use lib.Dec.{leb}
-use borrow.Author.Tests.{leb-true, ltb-true, le-leb, lt-leb, lt-ltb, le-ltb}
-use Rattle.conditions.proofs.Bools.{both_first, both-second, both-on, both-off, both-off-second}
+use borrow.Author.Tests.{leb-true, ltb-true}
+use Rattle.conditions.proofs.Bools.{both_first, both-second}
 use Rattle.plan.specs.Places.{number_at}
 use Rattle.c_state.specs.Stored.{serial_place, mode_place, radius_place, index_place, phase_place, finished_place, norths_place, word_at, holds_state, AreWords}
 

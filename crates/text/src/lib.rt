@@ -15,6 +15,7 @@ use std::num::{f32_from_bits_with_nan, f32_to_bits_with_nan};
 // The hexadecimal digits of an f32.
 const FLOAT_DIGITS: usize = 8;
 
+#[tactic(auto, using(crate::proofs::WrittenLaws::one))]
 pub fn put_byte(byte: u8, at: usize, buffer: &mut [u8]) -> usize
     requires { at < length buffer.old }
     ensures { Wrote at (byte ∷ []) buffer.old buffer.new result }
@@ -23,6 +24,7 @@ pub fn put_byte(byte: u8, at: usize, buffer: &mut [u8]) -> usize
     at + 1
 }
 
+#[tactic(auto, using(crate::proofs::WrittenLaws::copied, buffers::proofs::SpliceLaws::lent))]
 pub fn put_text(text: &[u8], at: usize, buffer: &mut [u8]) -> usize
     requires { at + length text.now ≤ length buffer.old }
     ensures { Wrote at text.now buffer.old buffer.new result }

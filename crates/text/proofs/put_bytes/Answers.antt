@@ -1,7 +1,7 @@
 -- `put_bytes` writes two digits for each byte. Assumes nothing.
 use borrow.Author.Rules.{rules}
 use native.Mathlib.Omega.{arith}
-use Rattle.text.proofs.BytesLaws.{starts, fits, goes_on, ends}
+use Rattle.text.proofs.BytesLaws.{starts, goes_on, ends}
 use Rattle.text.proofs.HoldsLaws.{bytes-hold}
 use Rattle.text.proofs.put_bytes.Goals as goal
 
