@@ -3,14 +3,10 @@ use mathlib.Core.Path.{◌≡◌, refl}
 use Prim.Native.Nat.{ℕ, ◌<◌}
 use native.Mathlib.Omega.{arith}
 use lib.ListN.{length}
-use lib.IntN.{ℤ, pos, negsuc}
-use lib.Dec.{ltb→lt}
-use lib.Signed.{◌<ℤ◌, ◌≤ℤ◌}
-use Rattle.conditions.specs.Choose.{choose}
 use Rattle.guidance.specs.declared.Command.{Command}
 use Rattle.guidance.specs.declared.Command.TheVariants.{Line, Circle, Nothing}
 use Rattle.manager.specs.declared.Answer.{Answer}
-use Rattle.c_answer.specs.Words.{word_of, sense_word, answer_words, command_numbers}
+use Rattle.c_answer.specs.Words.{word_of, answer_words, command_numbers}
 
 pub answer-length : (a : Answer) → length (answer_words a) ≡ 8
 unfolding answer_words
