@@ -63,7 +63,7 @@ pub fn farnkuppel_load(file: &[u8], reader: u32, state: &mut [i32], answer: &mut
     let progress = entered.progress;
     c_state::put_head(head, progress, state);
     let number = entered.refusal as u32;
-    buffers::put_words(&[number, c_answer::word(entered.place)], answer);
+    buffers::put(&[number, c_answer::word(entered.place)], answer);
     number
 }
 
@@ -101,7 +101,7 @@ fn refuse(words: &[i32], answer: &mut [u32], command: &mut [f32])
         c_state::word_at(words, c_state::PHASE_PLACE),
         c_state::word_at(words, c_state::FINISHED_PLACE),
     ];
-    buffers::put_words(&values, answer);
+    buffers::put(&values, answer);
     c_answer::put_command(Command::Nothing, command);
 }
 
@@ -171,7 +171,7 @@ pub fn farnkuppel_write(state: &[i32], version: u32, file: &mut [u8], answer: &m
         return refusals::MISFIT as u32;
     }
     if !c_state::holds_state(state) {
-        buffers::put_words(&[refusals::NO_STATE as u32, 0, 0], answer);
+        buffers::put(&[refusals::NO_STATE as u32, 0, 0], answer);
         return refusals::NO_STATE as u32;
     }
     let written = write_at(state, version, file);
@@ -181,7 +181,7 @@ pub fn farnkuppel_write(state: &[i32], version: u32, file: &mut [u8], answer: &m
         c_answer::word(written.place),
         c_answer::word(written.length),
     ];
-    buffers::put_words(&values, answer);
+    buffers::put(&values, answer);
     number
 }
 
@@ -221,7 +221,7 @@ pub fn farnkuppel_distances(state: &[i32], table: &mut [u32], answer: &mut [u32]
     }
     let found = distances_at(state, table);
     let number = found.number as u32;
-    buffers::put_words(&[number, c_answer::word(found.place)], answer);
+    buffers::put(&[number, c_answer::word(found.place)], answer);
     number
 }
 
@@ -257,6 +257,6 @@ pub fn farnkuppel_distance(state: &[i32], answer: &mut [u32]) -> u32
     }
     let found = distance_at(state);
     let number = found.refusal as u32;
-    buffers::put_words(&[number, c_answer::word(found.place), found.left], answer);
+    buffers::put(&[number, c_answer::word(found.place), found.left], answer);
     number
 }

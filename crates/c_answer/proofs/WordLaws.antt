@@ -1,16 +1,12 @@
--- How many words and numbers there are, what a word keeps, and the word of a sense by the sign of the sense. Assumes nothing.
+-- How many words and numbers there are, and what a word keeps. Assumes nothing.
 use mathlib.Core.Path.{◌≡◌, refl}
 use Prim.Native.Nat.{ℕ, ◌<◌}
 use native.Mathlib.Omega.{arith}
 use lib.ListN.{length}
-use lib.IntN.{ℤ, pos, negsuc}
-use lib.Dec.{ltb→lt}
-use lib.Signed.{◌<ℤ◌, ◌≤ℤ◌}
-use Rattle.conditions.specs.Choose.{choose}
 use Rattle.guidance.specs.declared.Command.{Command}
 use Rattle.guidance.specs.declared.Command.TheVariants.{Line, Circle, Nothing}
 use Rattle.manager.specs.declared.Answer.{Answer}
-use Rattle.c_answer.specs.Words.{word_of, sense_word, answer_words, command_numbers}
+use Rattle.c_answer.specs.Words.{word_of, answer_words, command_numbers}
 
 pub answer-length : (a : Answer) → length (answer_words a) ≡ 8
 unfolding answer_words
@@ -25,13 +21,3 @@ command-length Nothing = refl
 pub word_kept : (n : ℕ) → n < 4294967296 → word_of n ≡ n
 unfolding word_of
 word_kept n h = omega arith
-
-pub anticlockwise : (sense : ℤ) → sense <ℤ pos 0 → sense_word sense ≡ 4294967295
-unfolding sense_word choose
-anticlockwise (pos n) h = absurd (omega (arith, ltb→lt n 0 h.lt))
-anticlockwise (negsuc n) h = refl
-
-pub clockwise : (sense : ℤ) → pos 0 ≤ℤ sense → sense_word sense ≡ 1
-unfolding sense_word choose
-clockwise (pos n) h = refl
-clockwise (negsuc n) h = absurd h.le

@@ -17,7 +17,7 @@ pub const ANSWER: usize = 8;
 
 pub const COMMAND: usize = 6;
 
-// The kinds of command.
+// The kinds of command. Numbers and no enum: they are words of the interface for C, and `kind_of` fixes them.
 const NO_COMMAND: u32 = 0;
 
 pub const LINE_KIND: u32 = 1;
@@ -27,37 +27,34 @@ pub const CIRCLE_KIND: u32 = 2;
 // How many values a word has.
 const WORD_VALUES: usize = 4294967296;
 
-// What a word holds of a number.
+// What a word holds of a number. No `try_from`: `word_of` keeps the low bits of a number that no word holds.
+#[tactic(auto, unfolding(crate::specs::Words::word_of))]
 pub fn word(n: usize) -> u32
     ensures { result ≡ word_of n }
 {
     (n % WORD_VALUES) as u32
 }
 
+#[tactic(auto, unfolding(crate::specs::Words::flag_of))]
 pub fn flag(b: bool) -> u32
     ensures { result ≡ flag_of b }
 {
-    if b {
-        return 1;
-    }
-    0
+    u32::from(b)
 }
 
+#[tactic(auto, unfolding(crate::specs::Words::kind_of))]
 fn kind(command: Command) -> u32
     ensures { result ≡ kind_of command }
 {
     match command {
-        Command::Line { start, direction } => LINE_KIND,
-        Command::Circle {
-            centre,
-            radius,
-            sense,
-        } => CIRCLE_KIND,
+        Command::Line { .. } => LINE_KIND,
+        Command::Circle { .. } => CIRCLE_KIND,
         Command::Nothing => NO_COMMAND,
     }
 }
 
-// +1 for clockwise, -1 for the other way.
+// +1 for clockwise, -1 for the other way. No `from`: `sense_word` knows a sense by its sign alone.
+#[tactic(auto, unfolding(crate::specs::Words::sense_word, conditions::specs::Choose::choose))]
 fn sense_word(sense: i8) -> u32
     ensures { result ≡ sense_word sense }
 {
@@ -67,21 +64,18 @@ fn sense_word(sense: i8) -> u32
     1
 }
 
+#[tactic(auto, unfolding(crate::specs::Words::command_sense))]
 fn command_sense(command: Command) -> u32
     ensures { result ≡ command_sense command }
 {
     match command {
-        Command::Line { start, direction } => 0,
-        Command::Circle {
-            centre,
-            radius,
-            sense,
-        } => sense_word(sense),
-        Command::Nothing => 0,
+        Command::Circle { sense, .. } => sense_word(sense),
+        Command::Line { .. } | Command::Nothing => 0,
     }
 }
 
 // An answer into the first words of a part.
+#[tactic(auto, using(crate::proofs::Anchors::answers), unfolding(crate::specs::Words::answer_words))]
 pub fn put_answer(answer: Answer, part: &mut [u32])
     requires { 8 ≤ length part.old }
     ensures part_after { part.new ≡ over (answer_words answer) part.old }
@@ -98,10 +92,11 @@ pub fn put_answer(answer: Answer, part: &mut [u32])
         answer.phase as u32,
         flag(answer.finished),
     ];
-    buffers::put_words(&values, part);
+    buffers::put(&values, part);
 }
 
-// An answer at its place among others.
+// An answer at its place among others. It and `put_command_at` are one call each, and a trait over both would be longer than the two.
+#[tactic(auto, using(buffers::proofs::SpliceLaws::lent))]
 pub fn put_answer_at(answer: Answer, at: usize, words: &mut [u32])
     requires { at + 8 ≤ length words.old }
     ensures { words.new ≡ splice at (answer_words answer) words.old }
@@ -110,36 +105,36 @@ pub fn put_answer_at(answer: Answer, at: usize, words: &mut [u32])
 }
 
 // A command into the first numbers of a part.
+#[tactic(auto, using(crate::proofs::Anchors::commands), unfolding(crate::specs::Words::command_numbers))]
 pub fn put_command(command: Command, part: &mut [f32])
     requires { 6 ≤ length part.old }
     ensures part_after { part.new ≡ over (command_numbers command) part.old }
     ensures command_example { CommandExample }
 {
-    match command {
-        Command::Line { start, direction } => buffers::put_floats(
-            &[
-                start.north,
-                start.east,
-                start.down,
-                direction.north,
-                direction.east,
-                direction.down,
-            ],
-            part,
-        ),
-        Command::Circle {
-            centre,
+    let numbers = match command {
+        Command::Line { start, direction } => [
+            start.north,
+            start.east,
+            start.down,
+            direction.north,
+            direction.east,
+            direction.down,
+        ],
+        Command::Circle { centre, radius, .. } => [
+            centre.north,
+            centre.east,
+            centre.down,
             radius,
-            sense,
-        } => buffers::put_floats(
-            &[centre.north, centre.east, centre.down, radius, 0.0, 0.0],
-            part,
-        ),
-        Command::Nothing => buffers::put_floats(&[0.0, 0.0, 0.0, 0.0, 0.0, 0.0], part),
-    }
+            0.0,
+            0.0,
+        ],
+        Command::Nothing => [0.0; COMMAND],
+    };
+    buffers::put(&numbers, part);
 }
 
 // A command at its place among others.
+#[tactic(auto, using(buffers::proofs::SpliceLaws::lent))]
 pub fn put_command_at(command: Command, at: usize, numbers: &mut [f32])
     requires { at + 6 ≤ length numbers.old }
     ensures { numbers.new ≡ splice at (command_numbers command) numbers.old }

@@ -1,15 +1,14 @@
 -- What words that hold a state hold, test by test. Assumes nothing.
-use mathlib.Core.Path.{◌≡◌, ◌∙◌}
-use mathlib.Core.Bool.{true, false}
+use mathlib.Core.Path.{◌≡◌}
+use mathlib.Core.Bool.{true}
 use mathlib.Core.List.{List}
 use Prim.Native.Nat.{ℕ, zero, suc, ◌≤◌, ◌<◌}
 use native.Mathlib.Omega.{arith}
 use lib.IntN.{ℤ}
 use mir.Syntax.{w8, w16, w32}
 use mir.Val.{Fits, SFits}
-use lib.Dec.{leb}
-use borrow.Author.Tests.{leb-true, ltb-true, le-leb, lt-leb, lt-ltb, le-ltb}
-use Rattle.conditions.proofs.Bools.{both_first, both-second, both-on, both-off, both-off-second}
+use borrow.Author.Tests.{leb-true, ltb-true}
+use Rattle.conditions.proofs.Bools.{both_first, both-second}
 use Rattle.plan.specs.Places.{number_at}
 use Rattle.c_state.specs.Stored.{serial_place, mode_place, radius_place, index_place, phase_place, finished_place, norths_place, word_at, holds_state, AreWords}
 
@@ -57,25 +56,3 @@ module _ (ws : List ℤ) (h : holds_state ws ≡ true) where
 
   pub phase-fits : {n : ℕ} → n ≡ word_at ws phase_place → Fits w8 n
   phase-fits e = record { fits = omega (arith, holds-means.phase) }
-
--- ---- the tests in turn, by what was read
-module _ (ws : List ℤ) where
-  pub no_mode : {m : ℕ} → m ≡ word_at ws mode_place → 2 < m → holds_state ws ≡ false
-  unfolding holds_state
-  no_mode e h = both-off _ _ (lt-leb (word_at ws mode_place) 2 (rw e at h))
-
-  pub no-radius : {r : ℕ} → r ≡ word_at ws radius_place → 65536 ≤ r → holds_state ws ≡ false
-  unfolding holds_state
-  no-radius e h = both-off-second _ _ (both-off _ _ (le-ltb (word_at ws radius_place) 65536 (rw e at h)))
-
-  pub no-phase : {p : ℕ} → p ≡ word_at ws phase_place → 256 ≤ p → holds_state ws ≡ false
-  unfolding holds_state
-  no-phase e h = both-off-second _ _ (both-off-second _ _ (both-off _ _ (le-ltb (word_at ws phase_place) 256 (rw e at h))))
-
-  pub last-test : {m r p : ℕ} → m ≡ word_at ws mode_place → m ≤ 2 → r ≡ word_at ws radius_place → r < 65536 → p ≡ word_at ws phase_place → p < 256
-      → holds_state ws ≡ leb (word_at ws finished_place) 1
-  unfolding holds_state
-  last-test e h f k g l =
-      both-on _ _ (le-leb (word_at ws mode_place) 2 (rw e at h))
-      ∙ both-on _ _ (lt-ltb (word_at ws radius_place) 65536 (rw f at k))
-      ∙ both-on _ _ (lt-ltb (word_at ws phase_place) 256 (rw g at l))

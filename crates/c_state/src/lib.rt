@@ -38,7 +38,7 @@ pub const COURSES_PLACE: usize = DOWNS_PLACE + plan::MOST_POINTS;
 // How many words a state takes.
 pub const STATE_LENGTH: usize = COURSES_PLACE + plan::MOST_POINTS;
 
-// The words of the modes.
+// The words of the modes. Numbers and no enum: they are words of the interface for C, and `mode_word` fixes them.
 const LINES_WORD: u32 = 0;
 
 const FILLETS_WORD: u32 = 1;
@@ -48,25 +48,20 @@ const DUBINS_WORD: u32 = 2;
 // The word of a state that is finished.
 const FINISHED_WORD: u32 = 1;
 
-// One more than the greatest radius and the greatest phase of their types.
-const RADII: u32 = integers::TWO_BYTES;
-
-const PHASES: u32 = integers::ONE_BYTE as u32;
-
-// The mode of a word.
+// The mode of a word. No `try_from`: `mode_at` has a mode for every word, and `holds_state` refuses the others before.
+#[tactic(auto, unfolding(crate::specs::Stored::mode_at, conditions::specs::Choose::choose))]
 fn mode_at(word: u32) -> Mode
     ensures { result ≡ mode_at word }
 {
-    if word == LINES_WORD {
-        return Mode::Lines;
+    match word {
+        LINES_WORD => Mode::Lines,
+        FILLETS_WORD => Mode::Fillets,
+        _ => Mode::Dubins,
     }
-    if word == FILLETS_WORD {
-        return Mode::Fillets;
-    }
-    Mode::Dubins
 }
 
 // The word of a mode.
+#[tactic(auto, unfolding(crate::specs::Stored::mode_word))]
 fn mode_word(mode: Mode) -> u32
     ensures { result ≡ mode_word mode }
 {
@@ -78,6 +73,7 @@ fn mode_word(mode: Mode) -> u32
 }
 
 // The bits of a word, which is a number of 32 bits.
+#[tactic(auto, unfolding(crate::specs::Stored::word_at))]
 pub fn word_at(words: &[i32], i: usize) -> u32
     requires { i < length words.now }
     ensures { (result ≡ word_at words.now i) × SFits w32 (number_at words.now i) }
@@ -86,29 +82,24 @@ pub fn word_at(words: &[i32], i: usize) -> u32
 }
 
 // Whether a state's words and an answer have their lengths.
+#[tactic(auto, unfolding(crate::specs::Stored::pair_fits, conditions::specs::Both::both))]
 pub fn fits(state: usize, answer: usize, least: usize) -> bool
     ensures { result ≡ pair_fits state answer least }
 {
-    if STATE_LENGTH <= state {
-        return least <= answer;
-    }
-    false
+    STATE_LENGTH <= state && least <= answer
 }
 
 // Whether words hold a state: a mode that exists, and each small number in its type. What is wrong with the plan, the manager refuses.
+#[tactic(auto, using(crate::proofs::Anchors::edges), unfolding(crate::specs::Stored::holds_state, conditions::specs::Both::both))]
 pub fn holds_state(words: &[i32]) -> bool
     requires { state_length ≤ length words.now }
     ensures value { result ≡ holds_state words.now }
     ensures edges { Edges }
 {
-    if word_at(words, MODE_PLACE) <= DUBINS_WORD {
-        if word_at(words, RADIUS_PLACE) < RADII {
-            if word_at(words, PHASE_PLACE) < PHASES {
-                return word_at(words, FINISHED_PLACE) <= FINISHED_WORD;
-            }
-        }
-    }
-    false
+    word_at(words, MODE_PLACE) <= DUBINS_WORD
+        && u16::try_from(word_at(words, RADIUS_PLACE)).is_ok()
+        && u8::try_from(word_at(words, PHASE_PLACE)).is_ok()
+        && word_at(words, FINISHED_PLACE) <= FINISHED_WORD
 }
 
 // What words that hold a state say of its plan beside the numbers. All words of it are read.
@@ -116,10 +107,9 @@ pub fn head_at(words: &[i32]) -> Head
     requires { (state_length ≤ length words.now) × (holds_state words.now ≡ true) }
     ensures { (result ≡ head_at words.now) × AreWords serial_place index_place words.now }
 {
-    let mode = mode_at(word_at(words, MODE_PLACE));
     Head {
         serial: word_at(words, SERIAL_PLACE),
-        mode,
+        mode: mode_at(word_at(words, MODE_PLACE)),
         radius: word_at(words, RADIUS_PLACE) as u16,
         count: word_at(words, COUNT_PLACE) as usize,
     }
@@ -142,23 +132,21 @@ fn put_bits(bits: &[u32], part: &mut [i32])
     requires { length bits.now ≤ length part.old }
     ensures { part.new ≡ over (in_words bits.now) part.old }
 {
-    let mut i: usize = 0;
-    while i < bits.len() {
-        part[i] = integers::signed(bits[i]);
-        i += 1;
+    for (i, n) in bits.iter().enumerate() {
+        part[i] = integers::signed(*n);
     }
 }
 
 // The words before the blocks.
+#[tactic(auto, using(crate::proofs::Anchors::layout))]
 pub fn put_head(head: Head, progress: Progress, words: &mut [i32])
     requires { norths_place ≤ length words.old }
     ensures words_after { words.new ≡ over (head_words head ++ progress_words progress) words.old }
     ensures layout { Layout }
 {
-    let mode = head.mode;
     let bits = [
         head.serial,
-        mode_word(mode),
+        mode_word(head.mode),
         head.radius as u32,
         c_answer::word(head.count),
         c_answer::word(progress.index),
@@ -169,6 +157,7 @@ pub fn put_head(head: Head, progress: Progress, words: &mut [i32])
 }
 
 // Index, phase and finished alone.
+#[tactic(auto, using(buffers::proofs::SpliceLaws::lent))]
 pub fn put_progress(progress: Progress, words: &mut [i32])
     requires { norths_place ≤ length words.old }
     ensures { words.new ≡ splice index_place (progress_words progress) words.old }

@@ -9,15 +9,12 @@ ghost use Rattle.conditions.specs.Between.{between};
 pub fn both(a: bool, b: bool) -> bool
     ensures { result ≡ both a b }
 {
-    if a { b } else { false }
+    a && b
 }
 
 // Whether low <= x <= high.
 pub fn between(low: usize, high: usize, x: usize) -> bool
     ensures { result ≡ between low high x }
 {
-    if low <= x {
-        return x <= high;
-    }
-    false
+    (low..=high).contains(&x)
 }

@@ -140,7 +140,7 @@ fn read_behind<R: Read>(
     let mut chunk = [0u8; CHUNK];
     let read = read_some(rt, reader, name, room.len() - done, &mut chunk);
     let count = read.count;
-    buffers::put_bytes(&chunk[..count], &mut room[done..]);
+    buffers::put(&chunk[..count], &mut room[done..]);
     read
 }
 

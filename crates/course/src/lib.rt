@@ -18,7 +18,7 @@ pub struct Vector {
 }
 
 // S (2.1): sines in units of 1/16,384, to the nearest unit.
-const S: [u16; 1025] = [
+static S: [u16; 1025] = [
     0, 25, 50, 75, 101, 126, 151, 176, 201, 226, 251, 276, 302, 327, 352, 377, 402, 427, 452, 477,
     503, 528, 553, 578, 603, 628, 653, 678, 704, 729, 754, 779, 804, 829, 854, 879, 904, 929, 955,
     980, 1005, 1030, 1055, 1080, 1105, 1130, 1155, 1180, 1205, 1230, 1255, 1280, 1306, 1331, 1356,
@@ -94,19 +94,19 @@ const S: [u16; 1025] = [
     16384, 16384, 16384,
 ];
 
-// The table as a value, to be lent: a constant is copied whole wherever it is named.
-fn table() -> [u16; 1025]
-    ensures { Sines result }
+// The table, lent: it lies in the program's constant data, and no reader copies it.
+fn table() -> &'static [u16; 1025]
+    ensures { Sines result.now }
 {
-    S
+    &S
 }
 
 // S[k]. All reading of the table is here.
-fn entry(table: &[u16; 1025], k: usize) -> u16
-    requires { (k ≤ 1024) × Sines table.now }
+fn entry(k: usize) -> u16
+    requires { k ≤ 1024 }
     ensures { result ≡ sine_of k }
 {
-    table[k]
+    table()[k]
 }
 
 // S[k], read from the table.
@@ -115,31 +115,7 @@ pub fn sine(k: usize) -> u16
     ensures value { result ≡ sine_of k }
     ensures are_sines { AreSines × TableFacts }
 {
-    let table = table();
-    entry(&table, k)
-}
-
-// c - p y, with y in 1/2^20.
-fn less_part(c: u64, p: u64, y: u64) -> u64
-    requires { (p ≤ c) × ((c ≤ 2 ^ 42) × (y ≤ 2 ^ 20)) }
-    ensures { (result ≡ c - p * y / 1048576) × (result ≤ c) }
-{
-    c - p * y / 1048576
-}
-
-// S[k], worked out: x (1.57.. - x² (0.64.. - x² (0.07.. - x² (0.004.. - x² 0.0001..)))) with x = k / 1024, the factors in 1/2^40. Reading it
-// would copy the whole table.
-fn worked_sine(k: usize) -> u64
-    requires { k ≤ 1024 }
-    ensures { result ≡ sine_of k }
-{
-    let x = k as u64;
-    let y = x * x;
-    let d = less_part(5139275500, 166764802, y);
-    let c = less_part(87619991819, d, y);
-    let b = less_part(710244664784, c, y);
-    let a = less_part(1727108818750, b, y);
-    (x * a * 16 + 549755813888) / 1099511627776
+    entry(k)
 }
 
 // A vector turned clockwise by q quarters.
@@ -147,24 +123,20 @@ fn turned_by(q: usize, north: i64, east: i64) -> Vector
     requires { (q < 4) × (Within 16384 north × Within 16384 east) }
     ensures { (result ≡ turned q (record { north = north; east = east })) × Near 16384 result }
 {
-    if q == 0 {
-        return Vector { north, east };
-    }
-    if q == 1 {
-        return Vector {
+    match q {
+        0 => Vector { north, east },
+        1 => Vector {
             north: -east,
             east: north,
-        };
-    }
-    if q == 2 {
-        return Vector {
+        },
+        2 => Vector {
             north: -north,
             east: -east,
-        };
-    }
-    Vector {
-        north: east,
-        east: -north,
+        },
+        _ => Vector {
+            north: east,
+            east: -north,
+        },
     }
 }
 
@@ -173,8 +145,8 @@ pub fn direction(k: usize) -> Vector
     ensures { (result ≡ direction_of k) × Near 16384 result }
 {
     let j = k % 1024;
-    let north = worked_sine(1024 - j) as i64;
-    let east = worked_sine(j) as i64;
+    let north = entry(1024 - j) as i64;
+    let east = entry(j) as i64;
     turned_by(k / 1024 % 4, north, east)
 }
 
@@ -202,14 +174,14 @@ fn edge_north(j: usize) -> u64
     requires { (0 < j) × (j ≤ 1024) }
     ensures { result ≡ edge_north j }
 {
-    worked_sine(1024 - j)
+    entry(1024 - j) as u64
 }
 
 fn edge_east(j: usize) -> u64
     requires { (0 < j) × (j ≤ 1024) }
     ensures { result ≡ edge_east j }
 {
-    worked_sine(j)
+    entry(j) as u64
 }
 
 // Whether (a, b) has reached edge j.
@@ -221,6 +193,7 @@ fn reaches(a: u64, b: u64, j: usize) -> bool
 }
 
 // How many of the first quarter's edges (a, b) has reached, by halving the range.
+// Kept as a loop: what is halved is a range of edges that are worked out, not a slice that the library's `partition_point` could search.
 fn edges_by_halves(a: u64, b: u64) -> usize
     requires { (a < 2 ^ 48) × (b < 2 ^ 48) }
     ensures { Reached a b result }
@@ -263,10 +236,7 @@ fn near_edge(a: u64, b: u64) -> usize
         1024.03125 - near_arc(x, y)
     };
     let edge = (integers::bits_of(arc + 4503599627370495.5) % 2048) as usize;
-    if edge < 1 {
-        return 1;
-    }
-    if edge <= 1022 { edge } else { 1022 }
+    edge.clamp(1, 1022)
 }
 
 // How many of the first quarter's edges (a, b) has reached. Where the guess is one off, its neighbours are tried.
@@ -282,13 +252,8 @@ fn edges_reached(a: u64, b: u64) -> usize
         if !reaches(a, b, edge + 2) {
             return edge + 1;
         }
-    } else {
-        if edge == 1 {
-            return 0;
-        }
-        if reaches(a, b, edge - 1) {
-            return edge - 1;
-        }
+    } else if edge == 1 || reaches(a, b, edge - 1) {
+        return edge - 1;
     }
     edges_by_halves(a, b)
 }
@@ -323,6 +288,7 @@ pub fn bearing(v: Vector) -> usize
     } else if east < 0 {
         bearing_in(3, b, a)
     } else {
+        // v is (0, 0).
         0
     }
 }
@@ -336,7 +302,8 @@ pub fn signed_bearing(v: Vector) -> i64
 {
     let k = bearing(v);
     if k < 2048 {
-        return k as i64;
+        k as i64
+    } else {
+        (k as i64) - 4096
     }
-    (k as i64) - 4096
 }

@@ -55,7 +55,7 @@ pub fn farnkuppel_check(file: &[u8], reader: u32, answer: &mut [u32]) -> u32
     }
     let found = wpl::refusal(file, reader);
     let number = found.number as u32;
-    buffers::put_words(&[number, c_answer::word(found.place)], answer);
+    buffers::put(&[number, c_answer::word(found.place)], answer);
     number
 }
 
@@ -80,7 +80,7 @@ pub fn farnkuppel_note(file: &[u8], number: u32, note: &mut [u8], answer: &mut [
         return refusals::MISFIT as u32;
     }
     let bytes = wpl::note(file, number as usize);
-    buffers::put_bytes(bytes, note);
+    buffers::put(bytes, note);
     answer[0] = bytes.len() as u32;
     0
 }
@@ -149,7 +149,7 @@ pub fn farnkuppel_strips(state: &[i32], answer: &mut [u32]) -> u32
         rule,
         c_answer::word(found.strips),
     ];
-    buffers::put_words(&values, answer);
+    buffers::put(&values, answer);
     number
 }
 
@@ -168,6 +168,6 @@ pub fn farnkuppel_strip(state: &[i32], number: u32, answer: &mut [u32]) -> u32
         c_answer::word(row.course),
         c_answer::word(row.length as usize),
     ];
-    buffers::put_words(&values, answer);
+    buffers::put(&values, answer);
     0
 }

@@ -11,9 +11,10 @@ use Rattle.course.specs.declared.Vector.{Vector}
 use Rattle.course.specs.Vectors.{plain}
 use Rattle.plane.specs.Level.{square_of}
 use Rattle.plane.proofs.LevelLaws.{square-sum, square-zero}
+use Rattle.dubins.specs.declared.Case.{Case}
 use Rattle.dubins.specs.Cases.{same_side, tangent_exists}
 
-module _ (case R : ℕ) (v : Vector) where
+module _ (case : Case) (R : ℕ) (v : Vector) where
   pub outer-test : same_side case ≡ true → tangent_exists case R v ≡ ltb 0 (square_of v)
   unfolding tangent_exists
   outer-test h = choose-true (same_side case) (ltb 0 (square_of v)) (leb (4 * R * R) (square_of v)) h

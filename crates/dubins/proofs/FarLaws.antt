@@ -17,6 +17,8 @@ use Rattle.course.proofs.OffsetLaws.{offset_near}
 use Rattle.plane.specs.Area.{level_of}
 use Rattle.plane.specs.Level.{plus, minus, square_of, sideways_of}
 use Rattle.plane.proofs.LevelLaws.{minus-near, square_le}
+use Rattle.dubins.specs.declared.Case.{Case}
+use Rattle.dubins.specs.declared.Case.TheVariants.{Rsr, Rsl, Lsr, Lsl}
 use Rattle.dubins.specs.declared.Ends.{Ends}
 use Rattle.dubins.specs.Cases.{starts_right, ends_right, same_side, centre_of, circles_of, case_exists}
 use Rattle.dubins.specs.Choice.{has_path_of, far_apart, OuterWhen, InnerWhen, Existence}
@@ -37,29 +39,29 @@ module _ (a b d e : Vector) where
   centres-differ : (R : ℕ) → Near R d → Near R e → 0 < R → 9 * R * R ≤ square_of (minus b a) → minus (plus b e) (plus a d) ≡ plain 0 0 → ⊥
   centres-differ R h k l far z = omega (arith, far, ap square_of (offsets-part z), square_le (minus d e) (minus-near d e h k), mul-le-mul l l)
 
-same-side : (same_side 1 ≡ true) × (same_side 4 ≡ true)
+same-side : (same_side Rsr ≡ true) × (same_side Lsl ≡ true)
 unfolding same_side starts_right ends_right choose
 same-side = (refl, refl)
 
-other-side : (same_side 2 ≡ false) × (same_side 3 ≡ false)
+other-side : (same_side Rsl ≡ false) × (same_side Lsr ≡ false)
 unfolding same_side starts_right ends_right choose
 other-side = (refl, refl)
 
 module _ (ends : Ends) (l : 0 < ends.radius) (h : far_apart ends.start ends.end ends.radius ≡ true) where
-  first-exists : case_exists ends 1 ≡ true
+  first-exists : case_exists ends Rsr ≡ true
   unfolding far_apart circles_of centre_of
   first-exists =
       let R = ends.radius in
-      let d = sideways_of ends.leave (starts_right 1) in
-      let e = sideways_of ends.arrive (ends_right 1) in
-      outer-exists 1 R (circles_of ends 1).v same-side.0
+      let d = sideways_of ends.leave (starts_right Rsr) in
+      let e = sideways_of ends.arrive (ends_right Rsr) in
+      outer-exists Rsr R (circles_of ends Rsr).v same-side.0
       (centres-differ (level_of ends.start) (level_of ends.end) (offset_of R d) (offset_of R e) R (offset_near R d) (offset_near R e) l (leb-true _ _ h))
 
   pub far-exists : has_path_of ends ≡ true
   unfolding has_path_of
   far-exists = simp first-exists
 
-module _ (ends : Ends) (case : ℕ) where
+module _ (ends : Ends) (case : Case) where
   outer-when : same_side case ≡ true → OuterWhen ends case
   outer-when h = let v = (circles_of ends case).v in (outer-apart case ends.radius v h, outer-exists case ends.radius v h)
 
@@ -69,9 +71,9 @@ module _ (ends : Ends) (case : ℕ) where
 pub existence : (ends : Ends) → Existence ends
 existence ends =
     record {
-      rsr = outer-when ends 1 same-side.0;
-      rsl = inner-when ends 2 other-side.0;
-      lsr = inner-when ends 3 other-side.1;
-      lsl = outer-when ends 4 same-side.1;
+      rsr = outer-when ends Rsr same-side.0;
+      rsl = inner-when ends Rsl other-side.0;
+      lsr = inner-when ends Lsr other-side.1;
+      lsl = outer-when ends Lsl same-side.1;
       far = λ l h. far-exists ends l h;
     }

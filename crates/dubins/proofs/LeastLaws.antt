@@ -1,5 +1,6 @@
 -- What a case is long at least, whatever its course: its two turns come to the turn between the leg's courses, and squares tell whether its straight
 -- part reaches a number. Assumes nothing.
+use Rattle.std.proofs.Common.{Option}
 use mathlib.Core.Path.{◌≡◌, refl, sym, ap, ◌∙◌}
 use mathlib.Core.Bool.{Bool, true, false, not}
 use Prim.Native.Nat.{ℕ, ◌+◌, ◌-◌, ◌*◌, ◌%◌, ◌≤◌, ◌<◌}
@@ -15,9 +16,10 @@ use Rattle.course.specs.declared.Vector.{Vector}
 use Rattle.course.specs.Bearing.{bearing_of}
 use Rattle.course.proofs.BearingLaws.{bearing-low}
 use Rattle.plane.specs.Level.{arc_of, square_of}
+use Rattle.dubins.specs.declared.Case.{Case}
+use Rattle.dubins.specs.declared.Path.{Path}
 use Rattle.dubins.specs.declared.Ends.{Ends}
 use Rattle.dubins.specs.declared.Circles.{Circles}
-use Rattle.dubins.specs.declared.Found.{Found}
 use Rattle.dubins.specs.Cases.{starts_right, ends_right, same_side, circles_of, case_exists, straight_of, straight_course, arc_turn, case_length, path_of}
 use Rattle.dubins.specs.Choice.{case_path, shorter_of}
 use Rattle.dubins.specs.Ways.{no_length, Measures}
@@ -57,7 +59,7 @@ module _ (l θ a : ℕ) (hl : l < 4096) (hθ : θ < 4096) (ha : a < 4096) where
       (remainder-of-difference _ _ (l + 4096 - a) (a + 4096 - l) m (omega arith) (omega arith) (rw (turn-left l a ha) at f) (rw (turn-right l a hl) at r))
 
 -- where both circles lie on the same side
-pub like-ends : (case : ℕ) → same_side case ≡ true → ends_right case ≡ starts_right case
+pub like-ends : (case : Case) → same_side case ≡ true → ends_right case ≡ starts_right case
 unfolding same_side choose
 like-ends case = by-sides (starts_right case) (ends_right case)
   where
@@ -73,13 +75,13 @@ unfolding arc_of
 arc-grows R t u h = omega (arith, mul-le-mul (le_refl R) h)
 
 -- the straight part, and the arcs of the least turns
-pub case-reaches : (ends : Ends) (case s θ m length : ℕ) → m ≤ arc_turn ends.leave θ (starts_right case) + arc_turn θ ends.arrive (ends_right case)
+pub case-reaches : (ends : Ends) (case : Case) (s θ m length : ℕ) → m ≤ arc_turn ends.leave θ (starts_right case) + arc_turn θ ends.arrive (ends_right case)
     → length ≤ s + arc_of ends.radius m → length ≤ case_length ends case s θ
 unfolding case_length
 case-reaches ends case s θ m length h k = omega (arith, k, arc-grows ends.radius m _ h)
 
 -- the straight part, and the arcs themselves
-pub case-parts : (ends : Ends) (case s θ : ℕ) → case_length ends case s θ ≡ s + case_length ends case 0 θ
+pub case-parts : (ends : Ends) (case : Case) (s θ : ℕ) → case_length ends case s θ ≡ s + case_length ends case 0 θ
 unfolding case_length
 case-parts ends case s θ = omega arith
 
@@ -93,7 +95,7 @@ alike a b c d f g = by-test (leb a b) refl
     by-test false e = sym (lt-leb c d (g (leb-false a b e)))
 
 -- asked of squares: of the straight part, what is left of the number beyond the arcs
-module _ (case R : ℕ) (v : Vector) (length arcs : ℕ) (h : arcs < length) where
+module _ (case : Case) (R : ℕ) (v : Vector) (length arcs : ℕ) (h : arcs < length) where
   by-root : (n : ℕ) → leb length (root_of n + arcs) ≡ leb ((length - arcs) * (length - arcs)) n
   by-root n = alike length (root_of n + arcs) (length - arcs) (root_of n) (λ k. omega arith) (λ k. omega arith) ∙ root-least n (length - arcs)
 
@@ -115,18 +117,18 @@ module _ (case R : ℕ) (v : Vector) (length arcs : ℕ) (h : arcs < length) whe
           (λ k. omega (arith, more))
 
 -- a case that is as long is not taken
-pub not-shorter : (ends : Ends) (case best : ℕ) (circles : Circles) → case_exists ends case ≡ true → circles ≡ circles_of ends case → best < no_length
+pub not-shorter : (ends : Ends) (case : Case) (best : ℕ) (circles : Circles) → case_exists ends case ≡ true → circles ≡ circles_of ends case → best < no_length
     → (let s = straight_of case ends.radius circles.v in best ≤ case_length ends case s (straight_course case ends.radius s circles.v))
-    → (f : Found) → Measures f best → shorter_of f (case_path ends case) ≡ f
+    → (f : Option Path) → Measures f best → shorter_of f (case_path ends case) ≡ f
 unfolding path_of
 not-shorter ends case best circles there e low long f k =
     ap (shorter_of f) (case-there ends case circles _ _ there e refl refl) ∙ earlier-stays f best k _ best low (le_refl best) long
 
-pub course-low : (case R s : ℕ) (v : Vector) → straight_course case R s v < 4096
+pub course-low : (case : Case) (R s : ℕ) (v : Vector) → straight_course case R s v < 4096
 unfolding straight_course
 course-low case R s v = bearing-low _
 
 -- the course of a case on one side is known without its straight part
-pub outer-course : (case R s : ℕ) (v : Vector) → same_side case ≡ true → bearing_of v ≡ straight_course case R s v
+pub outer-course : (case : Case) (R s : ℕ) (v : Vector) → same_side case ≡ true → bearing_of v ≡ straight_course case R s v
 unfolding straight_course choose
 outer-course case R s v e = simp e

@@ -1,45 +1,45 @@
 -- The least length is the same in whatever order the cases are tried; only which of equal ones is kept depends on it. Assumes nothing.
+use Rattle.std.proofs.Common.{Option, Some, None}
 use mathlib.Core.Path.{◌≡◌, refl, ◌∙◌}
 use Prim.Native.Nat.{ℕ, ◌<◌, min}
 use native.Mathlib.Omega.{arith}
 use native.Mathlib.Decide.{dec_lt}
+use Rattle.dubins.specs.declared.Case.TheVariants.{Rsr, Rsl, Lsr, Lsl}
 use Rattle.dubins.specs.declared.Ends.{Ends}
 use Rattle.dubins.specs.declared.Path.{Path}
-use Rattle.dubins.specs.declared.Found.{Found}
-use Rattle.dubins.specs.declared.Found.TheVariants.{Shortest, Missing}
 use Rattle.dubins.specs.Choice.{case_path, shorter_of}
-use Rattle.dubins.specs.Ways.{Measures, shortest_to}
+use Rattle.dubins.specs.Ways.{Measures}
 use Rattle.dubins.proofs.ShortestLaws.{earlier-wins, later-wins}
 
 -- both missing, or as long
-abbrev Same : Found → Found → Type 0
-Same Missing Missing = Unit {0}
-Same (Shortest p) (Shortest q) = p.length ≡ q.length
-Same Missing (Shortest q) = ⊥
-Same (Shortest p) Missing = ⊥
+abbrev Same : Option Path → Option Path → Type 0
+Same None None = Unit {0}
+Same (Some p) (Some q) = p.length ≡ q.length
+Same None (Some q) = ⊥
+Same (Some p) None = ⊥
 
-same_refl : (f : Found) → Same f f
-same_refl Missing = tt
-same_refl (Shortest p) = refl
+same_refl : (f : Option Path) → Same f f
+same_refl None = tt
+same_refl (Some p) = refl
 
-same-trans : (f g h : Found) → Same f g → Same g h → Same f h
-same-trans Missing Missing Missing a b = tt
-same-trans (Shortest p) (Shortest q) (Shortest r) a b = a ∙ b
-same-trans Missing (Shortest q) h a b = absurd a
-same-trans (Shortest p) Missing h a b = absurd a
-same-trans Missing Missing (Shortest r) a b = absurd b
-same-trans (Shortest p) (Shortest q) Missing a b = absurd b
+same-trans : (f g h : Option Path) → Same f g → Same g h → Same f h
+same-trans None None None a b = tt
+same-trans (Some p) (Some q) (Some r) a b = a ∙ b
+same-trans None (Some q) h a b = absurd a
+same-trans (Some p) None h a b = absurd a
+same-trans None None (Some r) a b = absurd b
+same-trans (Some p) (Some q) None a b = absurd b
 
-same-measures : (f g : Found) (n : ℕ) → Same f g → Measures f n → Measures g n
-same-measures Missing Missing n a m = m
-same-measures (Shortest p) (Shortest q) n a m = (m.0 ∙ a, m.1)
-same-measures Missing (Shortest q) n a m = absurd a
-same-measures (Shortest p) Missing n a m = absurd a
+same-measures : (f g : Option Path) (n : ℕ) → Same f g → Measures f n → Measures g n
+same-measures None None n a m = m
+same-measures (Some p) (Some q) n a m = (m.0 ∙ a, m.1)
+same-measures None (Some q) n a m = absurd a
+same-measures (Some p) None n a m = absurd a
 
 -- of two paths one is kept, as long as the lesser
 record Kept (p q : Path) : Type 0 where
   path : Path
-  here : shorter_of (Shortest p) (Shortest q) ≡ Shortest path
+  here : shorter_of (Some p) (Some q) ≡ Some path
   long : path.length ≡ min p.length q.length
 
 kept : (p q : Path) → Kept p q
@@ -50,27 +50,27 @@ kept p q = by-dec (dec_lt q.length p.length)
     by-dec (no h) = record { path = p; here = earlier-wins p q (omega arith); long = omega arith }
 
 -- what comes after two as long ones comes to as much
-same_after : (f g a : Found) → Same f g → Same (shorter_of f a) (shorter_of g a)
+same_after : (f g a : Option Path) → Same f g → Same (shorter_of f a) (shorter_of g a)
 unfolding shorter_of
-same_after f g Missing e = e
-same_after Missing Missing (Shortest r) e = refl
-same_after (Shortest p) (Shortest q) (Shortest r) e =
+same_after f g None e = e
+same_after None None (Some r) e = refl
+same_after (Some p) (Some q) (Some r) e =
     let k = kept p r in
     let l = kept q r in
     simp (k.here, l.here) (omega (arith, e, k.long, l.long))
-same_after Missing (Shortest q) (Shortest r) e = absurd e
-same_after (Shortest p) Missing (Shortest r) e = absurd e
+same_after None (Some q) (Some r) e = absurd e
+same_after (Some p) None (Some r) e = absurd e
 
 -- two cases in either order
-either_first : (f a b : Found) → Same (shorter_of (shorter_of f a) b) (shorter_of (shorter_of f b) a)
+either_first : (f a b : Option Path) → Same (shorter_of (shorter_of f a) b) (shorter_of (shorter_of f b) a)
 unfolding shorter_of
-either_first f a Missing = same_refl (shorter_of f a)
-either_first f Missing (Shortest q) = same_refl (shorter_of f (Shortest q))
-either_first Missing (Shortest p) (Shortest q) =
+either_first f a None = same_refl (shorter_of f a)
+either_first f None (Some q) = same_refl (shorter_of f (Some q))
+either_first None (Some p) (Some q) =
     let k = kept p q in
     let l = kept q p in
     simp (k.here, l.here) (omega (arith, k.long, l.long))
-either_first (Shortest o) (Shortest p) (Shortest q) =
+either_first (Some o) (Some p) (Some q) =
     let k = kept o p in
     let l = kept o q in
     let m = kept k.path q in
@@ -81,22 +81,21 @@ either_first (Shortest o) (Shortest p) (Shortest q) =
     of_three o p q ek el em en = omega arith
 
 -- LSL before RSR
-pub left-first : (ends : Ends) (n : ℕ) → Measures (shorter_of (shorter_of Missing (case_path ends 4)) (case_path ends 1)) n
-    → Measures (shorter_of (shorter_of Missing (case_path ends 1)) (case_path ends 4)) n
+pub left-first : (ends : Ends) (n : ℕ) → Measures (shorter_of (shorter_of None (case_path ends Lsl)) (case_path ends Rsr)) n
+    → Measures (shorter_of (shorter_of None (case_path ends Rsr)) (case_path ends Lsl)) n
 left-first ends n =
-    let one = case_path ends 1 in
-    let four = case_path ends 4 in
-    same-measures (shorter_of (shorter_of Missing four) one) (shorter_of (shorter_of Missing one) four) n (either_first Missing four one)
+    let one = case_path ends Rsr in
+    let four = case_path ends Lsl in
+    same-measures (shorter_of (shorter_of None four) one) (shorter_of (shorter_of None one) four) n (either_first None four one)
 
 -- LSL before RSL and LSR
-pub outer-first : (ends : Ends) (n : ℕ) → Measures (shorter_of (shorter_of (shorter_of (shorter_of Missing (case_path ends 1)) (case_path ends 4)) (case_path ends 2)) (case_path ends 3)) n
-    → Measures (shortest_to ends 4) n
-unfolding shortest_to
+pub outer-first : (ends : Ends) (n : ℕ) → Measures (shorter_of (shorter_of (shorter_of (shorter_of None (case_path ends Rsr)) (case_path ends Lsl)) (case_path ends Rsl)) (case_path ends Lsr)) n
+    → Measures (shorter_of (shorter_of (shorter_of (shorter_of None (case_path ends Rsr)) (case_path ends Rsl)) (case_path ends Lsr)) (case_path ends Lsl)) n
 outer-first ends n =
-    let one = shorter_of Missing (case_path ends 1) in
-    let two = case_path ends 2 in
-    let three = case_path ends 3 in
-    let four = case_path ends 4 in
+    let one = shorter_of None (case_path ends Rsr) in
+    let two = case_path ends Rsl in
+    let three = case_path ends Lsr in
+    let four = case_path ends Lsl in
     let tried = shorter_of (shorter_of (shorter_of one four) two) three in
     let last = shorter_of (shorter_of (shorter_of one two) three) four in
     same-measures tried last n

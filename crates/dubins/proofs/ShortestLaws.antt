@@ -1,5 +1,6 @@
 -- A shortest path is found exactly when a case exists. It is the path of its own case, no case is shorter and no earlier one as short, and no
 -- other path is so. Assumes nothing.
+use Rattle.std.proofs.Common.{Option, Some, None}
 use mathlib.Core.Path.{◌≡◌, refl, sym, ap, ◌∙◌, subst}
 use mathlib.Core.Bool.{Bool, true, false, true≢false, ◌||◌}
 use Prim.Native.Nat.{ℕ, suc, ◌≤◌, ◌<◌}
@@ -9,100 +10,101 @@ use lib.Dec.{leb}
 use borrow.Author.Tests.{leb-true, leb-false, le-leb, lt-leb}
 use Rattle.conditions.specs.Choose.{choose}
 use Rattle.conditions.proofs.ChooseLaws.{choose-true, choose-false}
+use Rattle.dubins.specs.declared.Case.{Case}
+use Rattle.dubins.specs.declared.Case.TheVariants.{Rsr, Rsl, Lsr, Lsl}
 use Rattle.dubins.specs.declared.Ends.{Ends}
 use Rattle.dubins.specs.declared.Circles.{Circles}
 use Rattle.dubins.specs.declared.Path.{Path}
-use Rattle.dubins.specs.declared.Found.{Found}
-use Rattle.dubins.specs.declared.Found.TheVariants.{Shortest, Missing}
-use Rattle.dubins.specs.Cases.{circles_of, case_exists, straight_of, straight_course, path_of}
+use Rattle.dubins.specs.Cases.{number_of, circles_of, case_exists, straight_of, straight_course, path_of}
 use Rattle.dubins.specs.Choice.{case_path, shorter_of, shortest_of, found_length, has_path_of, Wins, IsShortest, Chosen}
-use Rattle.dubins.specs.Ways.{no_length, Measures, shortest_to}
+use Rattle.dubins.specs.Ways.{no_length, Measures}
 
 -- ---- of two paths
 module _ (p q : Path) where
-  pub earlier-wins : p.length ≤ q.length → shorter_of (Shortest p) (Shortest q) ≡ Shortest p
+  pub earlier-wins : p.length ≤ q.length → shorter_of (Some p) (Some q) ≡ Some p
   unfolding shorter_of
-  earlier-wins h = choose-true (leb p.length q.length) (Shortest p) (Shortest q) (le-leb p.length q.length h)
+  earlier-wins h = choose-true (leb p.length q.length) (Some p) (Some q) (le-leb p.length q.length h)
 
-  pub later-wins : q.length < p.length → shorter_of (Shortest p) (Shortest q) ≡ Shortest q
+  pub later-wins : q.length < p.length → shorter_of (Some p) (Some q) ≡ Some q
   unfolding shorter_of
-  later-wins h = choose-false (leb p.length q.length) (Shortest p) (Shortest q) (lt-leb p.length q.length h)
+  later-wins h = choose-false (leb p.length q.length) (Some p) (Some q) (lt-leb p.length q.length h)
 
-pub only-later : (b : Found) → shorter_of Missing b ≡ b
+pub only-later : (b : Option Path) → shorter_of None b ≡ b
 unfolding shorter_of
-only-later Missing = refl
-only-later (Shortest q) = refl
+only-later None = refl
+only-later (Some q) = refl
 
 -- ---- the cases one after another
-pub shortest-all : (ends : Ends) → shortest_to ends 4 ≡ shortest_of ends
-unfolding shortest_to shortest_of
-shortest-all ends = ap (λ (f : Found). shorter_of (shorter_of (shorter_of f (case_path ends 2)) (case_path ends 3)) (case_path ends 4)) (only-later (case_path ends 1))
+pub shortest-all : (ends : Ends)
+    → shorter_of (shorter_of (shorter_of (shorter_of None (case_path ends Rsr)) (case_path ends Rsl)) (case_path ends Lsr)) (case_path ends Lsl) ≡ shortest_of ends
+unfolding shortest_of
+shortest-all ends = ap (λ (f : Option Path). shorter_of (shorter_of (shorter_of f (case_path ends Rsl)) (case_path ends Lsr)) (case_path ends Lsl)) (only-later (case_path ends Rsr))
 
-pub earlier-stays : (f : Found) (best : ℕ) → Measures f best → (p : Path) (m : ℕ) → m < no_length → best ≤ m → m ≤ p.length → shorter_of f (Shortest p) ≡ f
-earlier-stays Missing best e p m b h l = absurd (omega (arith, e))
-earlier-stays (Shortest q) best e p m b h l = earlier-wins q p (omega (arith, e.0))
+pub earlier-stays : (f : Option Path) (best : ℕ) → Measures f best → (p : Path) (m : ℕ) → m < no_length → best ≤ m → m ≤ p.length → shorter_of f (Some p) ≡ f
+earlier-stays None best e p m b h l = absurd (omega (arith, e))
+earlier-stays (Some q) best e p m b h l = earlier-wins q p (omega (arith, e.0))
 
 -- ---- lengths alone: a case that does not exist, one of which as much is known as is no shorter, and one that is shorter
-module _ (f : Found) (best : ℕ) (k : Measures f best) (c : Found) where
-  pub measures-absent : c ≡ Missing → Measures (shorter_of f c) best
+module _ (f : Option Path) (best : ℕ) (k : Measures f best) (c : Option Path) where
+  pub measures-absent : c ≡ None → Measures (shorter_of f c) best
   unfolding shorter_of
-  measures-absent h = subst (λ (x : Found). Measures (shorter_of f x) best) (sym h) k
+  measures-absent h = subst (λ (x : Option Path). Measures (shorter_of f x) best) (sym h) k
 
-  module _ (p : Path) (there : c ≡ Shortest p) where
+  module _ (p : Path) (there : c ≡ Some p) where
     pub measures-kept : (m : ℕ) → m < no_length → best ≤ m → m ≤ p.length → Measures (shorter_of f c) best
-    measures-kept m b h l = subst (λ (x : Found). Measures (shorter_of f x) best) (sym there) (subst (λ (x : Found). Measures x best) (sym (earlier-stays f best k p m b h l)) k)
+    measures-kept m b h l = subst (λ (x : Option Path). Measures (shorter_of f x) best) (sym there) (subst (λ (x : Option Path). Measures x best) (sym (earlier-stays f best k p m b h l)) k)
 
     pub measures-taken : (length : ℕ) → length ≡ p.length → length < no_length → length < best → Measures (shorter_of f c) length
-    measures-taken length e b h = subst (λ (x : Found). Measures (shorter_of f x) length) (sym there) (subst (λ (x : Found). Measures x length) (sym (takes f k)) (e, b))
+    measures-taken length e b h = subst (λ (x : Option Path). Measures (shorter_of f x) length) (sym there) (subst (λ (x : Option Path). Measures x length) (sym (takes f k)) (e, b))
       where
-        takes : (g : Found) → Measures g best → shorter_of g (Shortest p) ≡ Shortest p
-        takes Missing i = only-later (Shortest p)
-        takes (Shortest q) i = later-wins q p (omega (arith, i.0, e))
+        takes : (g : Option Path) → Measures g best → shorter_of g (Some p) ≡ Some p
+        takes None i = only-later (Some p)
+        takes (Some q) i = later-wins q p (omega (arith, i.0, e))
 
 -- at the end
-pub measures-found : (f : Found) (best : ℕ) → Measures f best → best < no_length → best ≡ found_length f
+pub measures-found : (f : Option Path) (best : ℕ) → Measures f best → best < no_length → best ≡ found_length f
 unfolding found_length
-measures-found Missing best k h = absurd (omega (arith, k))
-measures-found (Shortest p) best k h = k.0
+measures-found None best k h = absurd (omega (arith, k))
+measures-found (Some p) best k h = k.0
 
-pub measures-none : (f : Found) (best : ℕ) → Measures f best → no_length ≤ best → 0 ≡ found_length f
+pub measures-none : (f : Option Path) (best : ℕ) → Measures f best → no_length ≤ best → 0 ≡ found_length f
 unfolding found_length
-measures-none Missing best k h = refl
-measures-none (Shortest p) best k h = absurd (omega (arith, k.1))
+measures-none None best k h = refl
+measures-none (Some p) best k h = absurd (omega (arith, k.1))
 
 -- ---- one case, from its parts
-module _ (ends : Ends) (case : ℕ) where
-  pub case-there : (circles : Circles) (s θ : ℕ) → case_exists ends case ≡ true → circles ≡ circles_of ends case → s ≡ straight_of case ends.radius circles.v → θ ≡ straight_course case ends.radius s circles.v → case_path ends case ≡ Shortest (path_of ends case circles s θ)
+module _ (ends : Ends) (case : Case) where
+  pub case-there : (circles : Circles) (s θ : ℕ) → case_exists ends case ≡ true → circles ≡ circles_of ends case → s ≡ straight_of case ends.radius circles.v → θ ≡ straight_course case ends.radius s circles.v → case_path ends case ≡ Some (path_of ends case circles s θ)
   unfolding case_path choose
   case-there circles s θ h e k l = simp (h, l, k, e)
 
-  pub case-absent : case_exists ends case ≡ false → case_path ends case ≡ Missing
+  pub case-absent : case_exists ends case ≡ false → case_path ends case ≡ None
   unfolding case_path choose
   case-absent h = simp h
 
 -- ---- found exactly when a case exists
-abbrev is_found : Found → Bool
-is_found (Shortest p) = true
-is_found Missing = false
+abbrev is_found : Option Path → Bool
+is_found (Some p) = true
+is_found None = false
 
-by-test : (t : Bool) (p : Path) → is_found (choose t (Shortest p) Missing) ≡ t
+by-test : (t : Bool) (p : Path) → is_found (choose t (Some p) None) ≡ t
 unfolding choose
 by-test true p = refl
 by-test false p = refl
 
-either : (t : Bool) (p q : Path) → is_found (choose t (Shortest p) (Shortest q)) ≡ true
+either : (t : Bool) (p q : Path) → is_found (choose t (Some p) (Some q)) ≡ true
 unfolding choose
 either true p q = refl
 either false p q = refl
 
-shorter-found : (a b : Found) → is_found (shorter_of a b) ≡ is_found a || is_found b
+shorter-found : (a b : Option Path) → is_found (shorter_of a b) ≡ is_found a || is_found b
 unfolding shorter_of
-shorter-found (Shortest p) Missing = refl
-shorter-found Missing Missing = refl
-shorter-found Missing (Shortest q) = refl
-shorter-found (Shortest p) (Shortest q) = either (leb p.length q.length) p q
+shorter-found (Some p) None = refl
+shorter-found None None = refl
+shorter-found None (Some q) = refl
+shorter-found (Some p) (Some q) = either (leb p.length q.length) p q
 
-case-found : (ends : Ends) (case : ℕ) → is_found (case_path ends case) ≡ case_exists ends case
+case-found : (ends : Ends) (case : Case) → is_found (case_path ends case) ≡ case_exists ends case
 unfolding case_path
 case-found ends case = by-test (case_exists ends case) _
 
@@ -110,126 +112,152 @@ has-path : (ends : Ends) → is_found (shortest_of ends) ≡ has_path_of ends
 unfolding shortest_of has_path_of
 has-path ends = simp (shorter-found, case-found)
 
-found-is : (f : Found) → is_found f ≡ true → (p : Path) × (f ≡ Shortest p)
-found-is (Shortest p) h = (p, refl)
-found-is Missing h = let z : ◌≡◌ {A = ℕ} 0 1 = cc in absurd (omega arith)
+found-is : (f : Option Path) → is_found f ≡ true → (p : Path) × (f ≡ Some p)
+found-is (Some p) h = (p, refl)
+found-is None h = let z : ◌≡◌ {A = ℕ} 0 1 = cc in absurd (omega arith)
 
-missing-is : (f : Found) → is_found f ≡ false → f ≡ Missing
-missing-is (Shortest p) h = let z : ◌≡◌ {A = ℕ} 0 1 = cc in absurd (omega arith)
-missing-is Missing h = refl
+missing-is : (f : Option Path) → is_found f ≡ false → f ≡ None
+missing-is (Some p) h = let z : ◌≡◌ {A = ℕ} 0 1 = cc in absurd (omega arith)
+missing-is None h = refl
 
-pub found-when : (ends : Ends) → has_path_of ends ≡ true → (p : Path) × (shortest_of ends ≡ Shortest p)
+pub found-when : (ends : Ends) → has_path_of ends ≡ true → (p : Path) × (shortest_of ends ≡ Some p)
 found-when ends h = found-is (shortest_of ends) (has-path ends ∙ h)
 
-pub missing-when : (ends : Ends) → has_path_of ends ≡ false → shortest_of ends ≡ Missing
+pub missing-when : (ends : Ends) → has_path_of ends ≡ false → shortest_of ends ≡ None
 missing-when ends h = missing-is (shortest_of ends) (has-path ends ∙ h)
 
 -- ---- what is found wins, and nothing else does
-none : {q : Path} {A : Type 0} → ◌≡◌ {A = Found} Missing (Shortest q) → A
+none : {q : Path} {A : Type 0} → ◌≡◌ {A = Option Path} None (Some q) → A
 none e = absurd (true≢false (sym (ap is_found e)))
 
-abbrev case_in : Found → ℕ
-case_in (Shortest p) = p.case
-case_in Missing = 0
+abbrev case_in : Option Path → Case
+case_in (Some p) = p.case
+case_in None = Rsr
 
-abbrev length_in : Found → ℕ
-length_in (Shortest p) = p.length
-length_in Missing = 0
+abbrev length_in : Option Path → ℕ
+length_in (Some p) = p.length
+length_in None = 0
 
-number_by : (case : ℕ) (t : Bool) (p q : Path) → p.case ≡ case → choose t (Shortest p) Missing ≡ Shortest q → q.case ≡ case
+case_by : (case : Case) (t : Bool) (p q : Path) → p.case ≡ case → choose t (Some p) None ≡ Some q → q.case ≡ case
 unfolding choose
-number_by case true p q k e = sym (ap case_in e) ∙ k
-number_by case false p q k e = none e
+case_by case true p q k e = sym (ap case_in e) ∙ k
+case_by case false p q k e = none e
+
+-- ---- cases by their numbers
+abbrev case_of : ℕ → Case
+case_of n = choose (leb n 1) Rsr (choose (leb n 2) Rsl (choose (leb n 3) Lsr Lsl))
+
+by-number : (case : Case) → case_of (number_of case) ≡ case
+unfolding choose
+by-number Rsr = refl
+by-number Rsl = refl
+by-number Lsr = refl
+by-number Lsl = refl
+
+same-number : (a b : Case) → number_of a ≡ number_of b → a ≡ b
+same-number a b e = sym (by-number a) ∙ ap case_of e ∙ by-number b
+
+number-low : (case : Case) → number_of case ≤ 4
+number-low Rsr = omega arith
+number-low Rsl = omega arith
+number-low Lsr = omega arith
+number-low Lsl = omega arith
+
+none-before : (case : Case) → number_of case ≤ 0 → ⊥
+none-before Rsr h = omega arith
+none-before Rsl h = omega arith
+none-before Lsr h = omega arith
+none-before Lsl h = omega arith
 
 module _ (ends : Ends) where
-  case-number : (case : ℕ) (q : Path) → case_path ends case ≡ Shortest q → q.case ≡ case
+  path-case : (case : Case) (q : Path) → case_path ends case ≡ Some q → q.case ≡ case
   unfolding case_path path_of
-  case-number case q e = number_by case (case_exists ends case) _ q refl e
+  path-case case q e = case_by case (case_exists ends case) _ q refl e
 
-  -- of the cases up to m, as Wins of all four
+  -- of the cases up to number m, as Wins of all four
   record Leads (m : ℕ) (p : Path) : Type 0 where
-    least : 1 ≤ p.case
-    most : p.case ≤ m
-    own : case_path ends p.case ≡ Shortest p
-    shortest : (case : ℕ) (q : Path) → 1 ≤ case → case ≤ m → case_path ends case ≡ Shortest q → p.length ≤ q.length
-    earliest : (case : ℕ) (q : Path) → 1 ≤ case → case < p.case → case_path ends case ≡ Shortest q → p.length < q.length
+    most : number_of p.case ≤ m
+    own : case_path ends p.case ≡ Some p
+    shortest : (case : Case) (q : Path) → number_of case ≤ m → case_path ends case ≡ Some q → p.length ≤ q.length
+    earliest : (case : Case) (q : Path) → number_of case < number_of p.case → case_path ends case ≡ Some q → p.length < q.length
 
-  abbrev Leading : ℕ → Found → Type 0
-  Leading m (Shortest p) = Leads m p
-  Leading m Missing = (case : ℕ) → 1 ≤ case → case ≤ m → case_path ends case ≡ Missing
+  abbrev Leading : ℕ → Option Path → Type 0
+  Leading m (Some p) = Leads m p
+  Leading m None = (case : Case) → number_of case ≤ m → case_path ends case ≡ None
 
-  module _ (m : ℕ) where
-    -- p leads on where case m + 1 is no shorter
-    kept : (p : Path) → Leads m p → ((q : Path) → case_path ends (suc m) ≡ Shortest q → p.length ≤ q.length) → Leads (suc m) p
+  module _ (m : ℕ) (next : Case) (number : number_of next ≡ suc m) where
+    -- p leads on where the next case is no shorter
+    kept : (p : Path) → Leads m p → ((q : Path) → case_path ends next ≡ Some q → p.length ≤ q.length) → Leads (suc m) p
     kept p l h =
         record {
-          least = l.least;
           most = omega (arith, l.most);
           own = l.own;
-          shortest = λ case q a b e. by-dec case q a b e (dec_lt case (suc m));
+          shortest = λ case q a e. by-dec case q a e (dec_lt (number_of case) (suc m));
           earliest = l.earliest;
         }
       where
-        by-dec : (case : ℕ) (q : Path) → 1 ≤ case → case ≤ suc m → case_path ends case ≡ Shortest q → Dec (case < suc m) → p.length ≤ q.length
-        by-dec case q a b e (yes d) = l.shortest case q a (omega arith) e
-        by-dec case q a b e (no d) = h q (ap (case_path ends) {x = suc m} {y = case} (omega arith) ∙ e)
+        by-dec : (case : Case) (q : Path) → number_of case ≤ suc m → case_path ends case ≡ Some q → Dec (number_of case < suc m) → p.length ≤ q.length
+        by-dec case q a e (yes d) = l.shortest case q (omega arith) e
+        by-dec case q a e (no d) = h q (ap (case_path ends) (same-number next case (omega (arith, number))) ∙ e)
 
-    -- and case m + 1 does where it is shorter than all before it
-    taken : (p : Path) → case_path ends (suc m) ≡ Shortest p → ((case : ℕ) (q : Path) → 1 ≤ case → case ≤ m → case_path ends case ≡ Shortest q → p.length < q.length) → Leads (suc m) p
+    -- and the next case does where it is shorter than all before it
+    taken : (p : Path) → case_path ends next ≡ Some p → ((case : Case) (q : Path) → number_of case ≤ m → case_path ends case ≡ Some q → p.length < q.length) → Leads (suc m) p
     taken p k h =
-        let n = case-number (suc m) p k in
+        let n : number_of p.case ≡ suc m = ap number_of (path-case next p k) ∙ number in
         record {
-          least = omega (arith, n);
           most = omega (arith, n);
-          own = ap (case_path ends) n ∙ k;
-          shortest = λ case q a b e. by-dec case q a b e (dec_lt case (suc m));
-          earliest = λ case q a b e. omega (arith, h case q a (omega (arith, n)) e);
+          own = ap (case_path ends) (path-case next p k) ∙ k;
+          shortest = λ case q a e. by-dec case q a e (dec_lt (number_of case) (suc m));
+          earliest = λ case q a e. h case q (omega (arith, n)) e;
         }
       where
-        by-dec : (case : ℕ) (q : Path) → 1 ≤ case → case ≤ suc m → case_path ends case ≡ Shortest q → Dec (case < suc m) → p.length ≤ q.length
-        by-dec case q a b e (yes d) = omega (arith, h case q a (omega arith) e)
-        by-dec case q a b e (no d) = omega (arith, ap length_in (sym k ∙ ap (case_path ends) {x = suc m} {y = case} (omega arith) ∙ e))
+        by-dec : (case : Case) (q : Path) → number_of case ≤ suc m → case_path ends case ≡ Some q → Dec (number_of case < suc m) → p.length ≤ q.length
+        by-dec case q a e (yes d) = omega (arith, h case q (omega arith) e)
+        by-dec case q a e (no d) = omega (arith, ap length_in (sym k ∙ ap (case_path ends) (same-number next case (omega (arith, number))) ∙ e))
 
-    by_length : (p q : Path) (t : Bool) → leb p.length q.length ≡ t → case_path ends (suc m) ≡ Shortest q → Leads m p → Leading (suc m) (choose t (Shortest p) (Shortest q))
+    by_length : (p q : Path) (t : Bool) → leb p.length q.length ≡ t → case_path ends next ≡ Some q → Leads m p → Leading (suc m) (choose t (Some p) (Some q))
     unfolding choose
     by_length p q true e k l = kept p l (λ r s. omega (arith, leb-true p.length q.length e, ap length_in (sym k ∙ s)))
-    by_length p q false e k l = taken q k (λ case r a b s. omega (arith, leb-false p.length q.length e, l.shortest case r a b s))
+    by_length p q false e k l = taken q k (λ case r a s. omega (arith, leb-false p.length q.length e, l.shortest case r a s))
 
-    still-none : case_path ends (suc m) ≡ Missing → Leading m Missing → (case : ℕ) → 1 ≤ case → case ≤ suc m → Dec (case < suc m) → case_path ends case ≡ Missing
-    still-none k l case a b (yes d) = l case a (omega arith)
-    still-none k l case a b (no d) = ap (case_path ends) {x = case} {y = suc m} (omega arith) ∙ k
+    still-none : case_path ends next ≡ None → Leading m None → (case : Case) → number_of case ≤ suc m → Dec (number_of case < suc m) → case_path ends case ≡ None
+    still-none k l case a (yes d) = l case (omega arith)
+    still-none k l case a (no d) = ap (case_path ends) (same-number case next (omega (arith, number))) ∙ k
 
-    step : (a b : Found) → case_path ends (suc m) ≡ b → Leading m a → Leading (suc m) (shorter_of a b)
+    step : (a b : Option Path) → case_path ends next ≡ b → Leading m a → Leading (suc m) (shorter_of a b)
     unfolding shorter_of
-    step Missing Missing k l = λ case a b. still-none k l case a b (dec_lt case (suc m))
-    step (Shortest p) Missing k l = kept p l (λ q e. none (sym k ∙ e))
-    step Missing (Shortest q) k l = taken q k (λ case r a b e. none (sym (l case a b) ∙ e))
-    step (Shortest p) (Shortest q) k l = by_length p q (leb p.length q.length) refl k l
+    step None None k l = λ case a. still-none k l case a (dec_lt (number_of case) (suc m))
+    step (Some p) None k l = kept p l (λ q e. none (sym k ∙ e))
+    step None (Some q) k l = taken q k (λ case r a e. none (sym (l case a) ∙ e))
+    step (Some p) (Some q) k l = by_length p q (leb p.length q.length) refl k l
 
   leading : Leading 4 (shortest_of ends)
   unfolding shortest_of
   leading =
-      step 3 _ _ refl (step 2 _ _ refl (step 1 _ _ refl (subst (Leading 1) (only-later (case_path ends 1)) (step 0 Missing _ refl (λ case a b. absurd (omega arith))))))
+      step 3 Lsl refl _ _ refl
+      (step 2 Lsr refl _ _ refl
+      (step 1 Rsl refl _ _ refl
+      (subst (Leading 1) (only-later (case_path ends Rsr)) (step 0 Rsr refl None _ refl (λ case a. absurd (none-before case a))))))
 
-  all-four : (f : Found) → Leading 4 f → IsShortest ends f
-  all-four (Shortest p) l = record { least = l.least; most = l.most; own = l.own; shortest = l.shortest; earliest = l.earliest }
-  all-four Missing l = l
+  all-four : (f : Option Path) → Leading 4 f → IsShortest ends f
+  all-four (Some p) l = record { own = l.own; shortest = λ case q e. l.shortest case q (number-low case) e; earliest = l.earliest }
+  all-four None l = λ case. l case (number-low case)
 
   pub shortest-is : IsShortest ends (shortest_of ends)
   shortest-is = all-four (shortest_of ends) leading
 
-  wins-once : (p q : Path) → Wins ends p → Wins ends q → Dec (p.case < q.case) → Dec (q.case < p.case) → Shortest p ≡ Shortest q
-  wins-once p q v w (yes d) e = absurd (omega (arith, w.earliest p.case p v.least d v.own, v.shortest q.case q w.least w.most w.own))
-  wins-once p q v w (no d) (yes e) = absurd (omega (arith, v.earliest q.case q w.least e w.own, w.shortest p.case p v.least v.most v.own))
-  wins-once p q v w (no d) (no e) = sym v.own ∙ ap (case_path ends) {x = p.case} {y = q.case} (omega arith) ∙ w.own
+  wins-once : (p q : Path) → Wins ends p → Wins ends q → Dec (number_of p.case < number_of q.case) → Dec (number_of q.case < number_of p.case) → Some p ≡ Some q
+  wins-once p q v w (yes d) e = absurd (omega (arith, w.earliest p.case p d v.own, v.shortest q.case q w.own))
+  wins-once p q v w (no d) (yes e) = absurd (omega (arith, v.earliest q.case q e w.own, w.shortest p.case p v.own))
+  wins-once p q v w (no d) (no e) = sym v.own ∙ ap (case_path ends) (same-number p.case q.case (omega arith)) ∙ w.own
 
-  pub shortest-only : (f g : Found) → IsShortest ends f → IsShortest ends g → f ≡ g
-  shortest-only (Shortest p) (Shortest q) v w = wins-once p q v w (dec_lt p.case q.case) (dec_lt q.case p.case)
-  shortest-only (Shortest p) Missing v w = none (sym (w p.case v.least v.most) ∙ v.own)
-  shortest-only Missing (Shortest q) v w = none (sym (v q.case w.least w.most) ∙ w.own)
-  shortest-only Missing Missing v w = refl
+  pub shortest-only : (f g : Option Path) → IsShortest ends f → IsShortest ends g → f ≡ g
+  shortest-only (Some p) (Some q) v w = wins-once p q v w (dec_lt (number_of p.case) (number_of q.case)) (dec_lt (number_of q.case) (number_of p.case))
+  shortest-only (Some p) None v w = none (sym (w p.case) ∙ v.own)
+  shortest-only None (Some q) v w = none (sym (v q.case) ∙ w.own)
+  shortest-only None None v w = refl
 
-  pub chosen : (r : Found) → r ≡ shortest_of ends → Chosen ends r
+  pub chosen : (r : Option Path) → r ≡ shortest_of ends → Chosen ends r
   chosen r e =
       record {
         holds = subst (IsShortest ends) (sym e) shortest-is;

@@ -1,12 +1,10 @@
 -- No clause: what a leg's ends may be, and the bounds of its path, for contracts below a plan. Assumes nothing.
-use Rattle.std.specs.Prelude.{◌≤◌, ◌<◌}
+use Rattle.std.specs.Prelude.{◌≤◌, ◌<◌, Option, Some, None}
 use Rattle.course.specs.Vectors.{Near}
 use Rattle.plane.specs.Area.{InArea}
 use Rattle.dubins.specs.declared.Ends.{Ends}
 use Rattle.dubins.specs.declared.Circles.{Circles}
 use Rattle.dubins.specs.declared.Path.{Path}
-use Rattle.dubins.specs.declared.Found.{Found}
-use Rattle.dubins.specs.declared.Found.TheVariants.{Shortest, Missing}
 
 -- two points of the area, two courses and a radius
 pub record IsEnds (ends : Ends) : Type 0 where
@@ -24,8 +22,6 @@ pub record IsCircles (c : Circles) : Type 0 where
 
 -- z1 and z2 lie a radius from their centres; the length is at most the root of 2·1,020,000² and an arc of two turns
 pub record IsPath (p : Path) : Type 0 where
-  pub least : 1 ≤ p.case
-  pub most : p.case ≤ 4
   pub course : p.course < 4096
   pub length : p.length ≤ 1568130
   pub start : Near 510000 p.start
@@ -33,6 +29,6 @@ pub record IsPath (p : Path) : Type 0 where
   pub z1 : Near 520000 p.z1
   pub z2 : Near 520000 p.z2
 
-abbrev pub IsFound : Found → Type 0
-IsFound (Shortest p) = IsPath p
-IsFound Missing = Unit {0}
+abbrev pub IsFound : Option Path → Type 0
+IsFound (Some p) = IsPath p
+IsFound None = Unit {0}

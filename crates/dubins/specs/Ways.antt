@@ -1,18 +1,13 @@
 -- No clause: what `shortest_path` works with, tied to Cases and Choice: both centres at an end, and a path without z1 and z2. For proofs alone:
 -- no contract of a public function cites it. Assumes nothing.
-use Rattle.std.specs.Prelude.{◌≡◌, true, false, ℕ, zero, suc, ◌≤◌, ◌<◌}
+use Rattle.std.specs.Prelude.{◌≡◌, true, false, ℕ, ◌≤◌, ◌<◌, Option, Some, None}
+use Rattle.std.specs.Option.{option_map}
 use Rattle.course.specs.Vectors.{Near}
 use Rattle.plane.specs.declared.Point.{Point}
 use Rattle.dubins.specs.declared.Centres.{Centres}
-use Rattle.dubins.specs.declared.Ends.{Ends}
 use Rattle.dubins.specs.declared.Path.{Path}
 use Rattle.dubins.specs.declared.Way.{Way}
-use Rattle.dubins.specs.declared.Tried.{Tried}
-use Rattle.dubins.specs.declared.Tried.TheVariants.{Exists, Absent}
-use Rattle.dubins.specs.declared.Found.{Found}
-use Rattle.dubins.specs.declared.Found.TheVariants.{Shortest, Missing}
 use Rattle.dubins.specs.Cases.{starts_right, ends_right, centre_of, touch_of}
-use Rattle.dubins.specs.Choice.{case_path, shorter_of}
 
 -- both centres at a point with a course, each a radius away
 pub record AreCentres (p : Point) (R χ : ℕ) (c : Centres) : Type 0 where
@@ -23,16 +18,14 @@ pub record AreCentres (p : Point) (R χ : ℕ) (c : Centres) : Type 0 where
 
 -- the bounds of a path without z1 and z2, which are those of IsPath
 pub record IsWay (w : Way) : Type 0 where
-  pub least : 1 ≤ w.case
-  pub most : w.case ≤ 4
   pub course : w.course < 4096
   pub length : w.length ≤ 1568130
   pub start : Near 510000 w.start
   pub end : Near 510000 w.end
 
-abbrev pub IsTried : Tried → Type 0
-IsTried (Exists w) = IsWay w
-IsTried Absent = Unit {0}
+abbrev pub IsTried : Option Way → Type 0
+IsTried (Some w) = IsWay w
+IsTried None = Unit {0}
 
 -- the path, with z1 and z2 as in path_of
 unfoldable pub path_along : ℕ → Way → Path
@@ -47,19 +40,13 @@ path_along R w =
       z2 = touch_of w.end R w.course (ends_right w.case);
     }
 
-unfoldable pub found_by : ℕ → Tried → Found
-found_by R (Exists w) = Shortest (path_along R w)
-found_by R Absent = Missing
+unfoldable pub found_by : ℕ → Option Way → Option Path
+found_by R tried = option_map (path_along R) tried
 
 -- a number that is more than any length, and what a number says of what was found: its length, or that number
 abbrev pub no_length : ℕ
 no_length = 2000000
 
-abbrev pub Measures : Found → ℕ → Type 0
-Measures (Shortest path) n = (n ≡ path.length) × (n < no_length)
-Measures Missing n = n ≡ no_length
-
--- the shortest of the first k cases
-unfoldable pub shortest_to : Ends → ℕ → Found
-shortest_to ends zero = Missing
-shortest_to ends (suc k) = shorter_of (shortest_to ends k) (case_path ends (suc k))
+abbrev pub Measures : Option Path → ℕ → Type 0
+Measures (Some path) n = (n ≡ path.length) × (n < no_length)
+Measures None n = n ≡ no_length

@@ -1,14 +1,12 @@
 // The four cases of a Dubins leg and the shortest of them (docs/RULES.md, section 12).
 #![tactic(auto)]
 
-ghost use Rattle.std.specs.Prelude.{◌≡◌, true, ℕ, ◌+◌, ◌≤◌, ◌<◌, leb};
+ghost use Rattle.std.specs.Prelude.{◌≡◌, true, ℕ, ◌+◌, ◌≤◌, ◌<◌, leb, Option};
 ghost use Rattle.course.specs.Vectors.{Near};
 ghost use Rattle.plane.specs.declared.Point.{Point};
 ghost use Rattle.plane.specs.Area.{InArea};
 ghost use Rattle.plane.specs.Level.{minus};
 ghost use Rattle.dubins.specs.declared.Path.{Path};
-ghost use Rattle.dubins.specs.declared.Found.{Found};
-ghost use Rattle.dubins.specs.declared.Found.TheVariants.{Shortest, Missing};
 ghost use Rattle.dubins.specs.Limits.{IsEnds, IsCircles, IsPath, IsFound};
 ghost use Rattle.dubins.specs.Cases.{starts_right, ends_right, same_side, centre_of, circles_of, tangent_exists, straight_of, inner_tangent, straight_course, arc_turn, case_length, touch_of, path_of, case_exists};
 ghost use Rattle.dubins.specs.Choice.{case_path, shorter_of, shortest_of, found_length, has_path_of, far_apart, Chosen, Existence};
@@ -17,6 +15,38 @@ ghost use Rattle.dubins.specs.Ways.{AreCentres, IsWay, IsTried, path_along, foun
 
 use course::Vector;
 use plane::Point;
+
+// The cases of a leg, in the rules' order: the side of the circle at the start, a straight part, the side of the circle at the end.
+#[derive(Clone, Copy, PartialEq, Eq)]
+pub enum Case {
+    Rsr,
+    Rsl,
+    Lsr,
+    Lsl,
+}
+
+impl Case {
+    // Whether the circle at the start is a right one.
+    pub fn starts_right(self) -> bool
+        ensures { result ≡ starts_right self }
+    {
+        matches!(self, Case::Rsr | Case::Rsl)
+    }
+
+    // Whether the circle at the end is a right one.
+    pub fn ends_right(self) -> bool
+        ensures { result ≡ ends_right self }
+    {
+        matches!(self, Case::Rsr | Case::Lsr)
+    }
+
+    // Whether both circles lie on the same side.
+    fn same_side(self) -> bool
+        ensures { result ≡ same_side self }
+    {
+        self.starts_right() == self.ends_right()
+    }
+}
 
 // The ends of a leg: its points, the courses to leave and to arrive on, the radius of the circles.
 #[derive(Clone, Copy)]
@@ -43,11 +73,10 @@ struct Circles {
     v: Vector,
 }
 
-// A leg by one case, 1 to 4 for RSR, RSL, LSR, LSL: the centres of its circles, the course of the straight part from z1 to z2, the
-// length of the whole.
+// A leg by one case: the centres of its circles, the course of the straight part from z1 to z2, the length of the whole.
 #[derive(Clone, Copy)]
 pub struct Path {
-    pub case: u8,
+    pub case: Case,
     pub course: usize,
     pub length: u64,
     pub start: Vector,
@@ -59,54 +88,15 @@ pub struct Path {
 // A path without z1 and z2, which only the shortest needs.
 #[derive(Clone, Copy)]
 struct Way {
-    case: u8,
+    case: Case,
     course: usize,
     length: u64,
     start: Vector,
     end: Vector,
 }
 
-// The way of a case, or that the case does not exist.
-#[derive(Clone, Copy)]
-enum Tried {
-    Exists(Way),
-    Absent,
-}
-
-// The shortest of the cases that were asked for, or that none of them exists.
-#[derive(Clone, Copy)]
-pub enum Found {
-    Shortest(Path),
-    Missing,
-}
-
 // More than a leg is long by any case.
 const NO_LENGTH: u64 = 2000000;
-
-// Whether the start circle of a case is a right one: RSR and RSL.
-pub fn starts_right(case: u8) -> bool
-    ensures { result ≡ starts_right case }
-{
-    case <= 2
-}
-
-// Whether the end circle of a case is a right one: RSR and LSR.
-pub fn ends_right(case: u8) -> bool
-    ensures { result ≡ ends_right case }
-{
-    case % 2 == 1
-}
-
-// Whether both circles of a case lie on the same side: RSR and LSL.
-fn same_side(case: u8) -> bool
-    ensures { result ≡ same_side case }
-{
-    if starts_right(case) {
-        ends_right(case)
-    } else {
-        !ends_right(case)
-    }
-}
 
 // The centre of the circle to the right or to the left of a point with a course.
 fn centre(p: Point, radius: u64, course: usize, right: bool) -> Vector
@@ -129,14 +119,14 @@ fn circles_at(start: Vector, end: Vector) -> Circles
 }
 
 // The circles of a case of a leg.
-fn circles_of(ends: Ends, case: u8) -> Circles
+fn circles_of(ends: Ends, case: Case) -> Circles
     requires { IsEnds ends }
     ensures { (result ≡ circles_of ends case) × IsCircles result }
 {
     let from = ends.start;
     let to = ends.end;
-    let start = centre(from, ends.radius, ends.leave, starts_right(case));
-    let end = centre(to, ends.radius, ends.arrive, ends_right(case));
+    let start = centre(from, ends.radius, ends.leave, case.starts_right());
+    let end = centre(to, ends.radius, ends.arrive, case.ends_right());
     circles_at(start, end)
 }
 
@@ -158,12 +148,12 @@ fn centre_on(centres: Centres, right: bool) -> Vector
 }
 
 // Whether the circles of a case, v apart, have the tangent that it flies along.
-fn tangent_exists(v: Vector, radius: u64, case: u8) -> bool
+fn tangent_exists(v: Vector, radius: u64, case: Case) -> bool
     requires { Near 1020000 v × (radius ≤ 10000) }
     ensures { result ≡ tangent_exists case radius v }
 {
     let square = plane::squared(v);
-    if same_side(case) {
+    if case.same_side() {
         0 < square
     } else {
         4 * radius * radius <= square
@@ -171,12 +161,12 @@ fn tangent_exists(v: Vector, radius: u64, case: u8) -> bool
 }
 
 // The length of the straight part. Where the case exists, the root is of no negative number.
-fn straight(v: Vector, radius: u64, case: u8) -> u64
+fn straight(v: Vector, radius: u64, case: Case) -> u64
     requires { Near 1020000 v × ((radius ≤ 10000) × (tangent_exists case radius v ≡ true)) }
     ensures { (result ≡ straight_of case radius v) × (result ≤ 1442497) }
 {
     let square = plane::squared(v);
-    if same_side(case) {
+    if case.same_side() {
         integers::root(square)
     } else {
         integers::root(square - 4 * radius * radius)
@@ -204,14 +194,14 @@ fn inner_tangent(v: Vector, s: u64, radius: u64, right: bool) -> Vector
 }
 
 // The course of the straight part of length s.
-fn straight_course(v: Vector, s: u64, radius: u64, case: u8) -> usize
+fn straight_course(v: Vector, s: u64, radius: u64, case: Case) -> usize
     requires { Near 1020000 v × ((s ≤ 1442497) × (radius ≤ 10000)) }
     ensures { (result ≡ straight_course case radius s v) × (result < 4096) }
 {
-    if same_side(case) {
+    if case.same_side() {
         course::bearing(v)
     } else {
-        course::bearing(inner_tangent(v, s, radius, starts_right(case)))
+        course::bearing(inner_tangent(v, s, radius, case.starts_right()))
     }
 }
 
@@ -238,18 +228,18 @@ fn touch(centre: Vector, radius: u64, course: usize, right: bool) -> Vector
 }
 
 // The length of a case with its two arcs, from the length and the course of its straight part.
-fn case_length(ends: Ends, case: u8, s: u64, course: usize) -> u64
+fn case_length(ends: Ends, case: Case, s: u64, course: usize) -> u64
     requires { IsEnds ends × ((s ≤ 1442497) × (course < 4096)) }
     ensures { (result ≡ case_length ends case s course) × (result ≤ 1568130) }
 {
-    let start_turn = turn(ends.leave, course, starts_right(case));
-    let end_turn = turn(course, ends.arrive, ends_right(case));
+    let start_turn = turn(ends.leave, course, case.starts_right());
+    let end_turn = turn(course, ends.arrive, case.ends_right());
     s + plane::arc(ends.radius, start_turn + end_turn)
 }
 
 // The way of a case, from its circles and the length and the course of its straight part.
-fn way_of(ends: Ends, case: u8, circles: Circles, s: u64, course: usize) -> Way
-    requires { (IsEnds ends × ((1 ≤ case) × (case ≤ 4))) × (IsCircles circles × ((s ≤ 1442497) × (course < 4096))) }
+fn way_of(ends: Ends, case: Case, circles: Circles, s: u64, course: usize) -> Way
+    requires { IsEnds ends × (IsCircles circles × ((s ≤ 1442497) × (course < 4096))) }
     ensures { (path_along ends.radius result ≡ path_of ends case circles s course) × IsWay result }
 {
     let start = circles.start;
@@ -265,7 +255,7 @@ fn way_of(ends: Ends, case: u8, circles: Circles, s: u64, course: usize) -> Way
 }
 
 // Whether a case of a leg exists.
-fn case_exists(ends: Ends, case: u8) -> bool
+fn case_exists(ends: Ends, case: Case) -> bool
     requires { IsEnds ends }
     ensures { result ≡ case_exists ends case }
 {
@@ -274,41 +264,39 @@ fn case_exists(ends: Ends, case: u8) -> bool
     tangent_exists(v, ends.radius, case)
 }
 
-// The shorter of two, the earlier on a tie.
-fn shorter(a: Tried, b: Tried) -> Tried
-    requires { IsTried a × IsTried b }
-    ensures { ((R : ℕ) → found_by R result ≡ shorter_of (found_by R a) (found_by R b)) × IsTried result }
+// The shorter of what was found before and a way, the earlier on a tie.
+fn shorter(best: Option<Way>, later: Way) -> Way
+    requires { IsTried best × IsWay later }
+    ensures { ((R : ℕ) → Some (path_along R result) ≡ shorter_of (found_by R best) (Some (path_along R later))) × IsWay result }
 {
-    match b {
-        Tried::Absent => a,
-        Tried::Exists(later) => match a {
-            Tried::Absent => b,
-            Tried::Exists(earlier) => if earlier.length <= later.length { a } else { b },
+    match best {
+        Some(earlier) => if earlier.length <= later.length {
+            earlier
+        } else {
+            later
         },
+        None => later,
     }
 }
 
 // The length of what was found, and more than any length where nothing was.
-fn length_before(best: Tried) -> u64
+fn length_before(best: Option<Way>) -> u64
     requires { IsTried best }
     ensures { (R : ℕ) → Measures (found_by R best) result }
 {
-    match best {
-        Tried::Exists(way) => way.length,
-        Tried::Absent => NO_LENGTH,
-    }
+    best.map_or(NO_LENGTH, |way| way.length)
 }
 
 // What both turns of a case come to at least, whatever the course between them: the turn from course to course on the side of both circles, and
 // between circles on either side the lesser of the two.
-fn least_turn(ends: Ends, case: u8) -> u64
+fn least_turn(ends: Ends, case: Case) -> u64
     requires { IsEnds ends }
     ensures { ((θ : ℕ) → θ < 4096 → result ≤ arc_turn ends.leave θ (starts_right case) + arc_turn θ ends.arrive (ends_right case)) × (result < 4096) }
 {
     let right = turn(ends.leave, ends.arrive, true);
     let left = turn(ends.leave, ends.arrive, false);
-    if same_side(case) {
-        if starts_right(case) { right } else { left }
+    if case.same_side() {
+        if case.starts_right() { right } else { left }
     } else {
         if right < left { right } else { left }
     }
@@ -316,7 +304,7 @@ fn least_turn(ends: Ends, case: u8) -> u64
 
 // Whether the straight part of a case with v between its centres and its arcs are as long as a length. Squares are compared, so that no root is
 // worked out.
-fn as_long(length: u64, arcs: u64, v: Vector, radius: u64, case: u8) -> bool
+fn as_long(length: u64, arcs: u64, v: Vector, radius: u64, case: Case) -> bool
     requires { (length ≤ no_length) × (Near 1020000 v × (radius ≤ 10000)) }
     ensures { result ≡ leb length (straight_of case radius v + arcs) }
 {
@@ -324,7 +312,7 @@ fn as_long(length: u64, arcs: u64, v: Vector, radius: u64, case: u8) -> bool
         return true;
     }
     let rest = length - arcs;
-    if same_side(case) {
+    if case.same_side() {
         rest * rest <= plane::squared(v)
     } else {
         rest * rest + 4 * radius * radius <= plane::squared(v)
@@ -333,7 +321,7 @@ fn as_long(length: u64, arcs: u64, v: Vector, radius: u64, case: u8) -> bool
 
 // Whether a case with v between its centres is seen without a root to be no shorter than a length: by the least that its turns come to, and where both
 // circles lie on the same side, so that its course needs no root, by its own arcs.
-fn no_shorter(length: u64, ends: Ends, v: Vector, case: u8) -> bool
+fn no_shorter(length: u64, ends: Ends, v: Vector, case: Case) -> bool
     requires { IsEnds ends × Near 1020000 v }
     ensures { result ≡ true → (length < no_length) × (length ≤ case_length ends case (straight_of case ends.radius v) (straight_course case ends.radius (straight_of case ends.radius v) v)) }
 {
@@ -349,7 +337,7 @@ fn no_shorter(length: u64, ends: Ends, v: Vector, case: u8) -> bool
     ) {
         return true;
     }
-    if same_side(case) {
+    if case.same_side() {
         return as_long(
             length,
             case_length(ends, case, 0, course::bearing(v)),
@@ -363,27 +351,25 @@ fn no_shorter(length: u64, ends: Ends, v: Vector, case: u8) -> bool
 
 // The shorter of what was found before and a case, from both centres at each end. Roots and bearings are dear, so those of a case that is seen not to
 // win are not worked out.
-fn better(best: Tried, ends: Ends, from: Centres, to: Centres, case: u8) -> Tried
-    requires tried { IsTried best × (IsEnds ends × ((1 ≤ case) × (case ≤ 4))) }
+fn better(best: Option<Way>, ends: Ends, from: Centres, to: Centres, case: Case) -> Option<Way>
+    requires tried { IsTried best × IsEnds ends }
     requires are_centres { AreCentres ends.start ends.radius ends.leave from }
     requires are_centres_2 { AreCentres ends.end ends.radius ends.arrive to }
     ensures { (found_by ends.radius result ≡ shorter_of (found_by ends.radius best) (case_path ends case)) × IsTried result }
 {
-    let start = centre_on(from, starts_right(case));
-    let end = centre_on(to, ends_right(case));
+    let start = centre_on(from, case.starts_right());
+    let end = centre_on(to, case.ends_right());
     let circles = circles_at(start, end);
     let v = circles.v;
-    if tangent_exists(v, ends.radius, case) {
-        if no_shorter(length_before(best), ends, v, case) {
-            best
-        } else {
-            let s = straight(v, ends.radius, case);
-            let course = straight_course(v, s, ends.radius, case);
-            shorter(best, Tried::Exists(way_of(ends, case, circles, s, course)))
-        }
-    } else {
-        best
+    if !tangent_exists(v, ends.radius, case) {
+        return best;
     }
+    if no_shorter(length_before(best), ends, v, case) {
+        return best;
+    }
+    let s = straight(v, ends.radius, case);
+    let course = straight_course(v, s, ends.radius, case);
+    Some(shorter(best, way_of(ends, case, circles, s, course)))
 }
 
 // The path along a way, with the points where its straight part touches the circles.
@@ -393,8 +379,8 @@ fn path_along(way: Way, radius: u64) -> Path
 {
     let start = way.start;
     let end = way.end;
-    let z1 = touch(start, radius, way.course, starts_right(way.case));
-    let z2 = touch(end, radius, way.course, ends_right(way.case));
+    let z1 = touch(start, radius, way.course, way.case.starts_right());
+    let z2 = touch(end, radius, way.course, way.case.ends_right());
     Path {
         case: way.case,
         course: way.course,
@@ -407,18 +393,15 @@ fn path_along(way: Way, radius: u64) -> Path
 }
 
 // The path of a case that was tried, where that exists.
-fn found_by(tried: Tried, radius: u64) -> Found
+fn found_by(tried: Option<Way>, radius: u64) -> Option<Path>
     requires { IsTried tried × (radius ≤ 10000) }
     ensures { (result ≡ found_by radius tried) × IsFound result }
 {
-    match tried {
-        Tried::Exists(way) => Found::Shortest(path_along(way, radius)),
-        Tried::Absent => Found::Missing,
-    }
+    tried.map(|way| path_along(way, radius))
 }
 
 // The shortest leg by any case. The centres are worked out once for all cases, z1 and z2 for the shortest alone.
-pub fn shortest_path(ends: Ends) -> Found
+pub fn shortest_path(ends: Ends) -> Option<Path>
     requires { IsEnds ends }
     ensures value { result ≡ shortest_of ends }
     ensures found { IsFound result }
@@ -428,22 +411,22 @@ pub fn shortest_path(ends: Ends) -> Found
     let end = ends.end;
     let from = both_centres(start, ends.radius, ends.leave);
     let to = both_centres(end, ends.radius, ends.arrive);
-    let rsr = better(Tried::Absent, ends, from, to, 1);
-    let rsl = better(rsr, ends, from, to, 2);
-    let lsr = better(rsl, ends, from, to, 3);
-    let lsl = better(lsr, ends, from, to, 4);
+    let rsr = better(None, ends, from, to, Case::Rsr);
+    let rsl = better(rsr, ends, from, to, Case::Rsl);
+    let lsr = better(rsl, ends, from, to, Case::Lsr);
+    let lsl = better(lsr, ends, from, to, Case::Lsl);
     found_by(lsl, ends.radius)
 }
 
 // The lesser of a length and that of a case, from both centres at each end; a case that does not exist has none.
-fn better_length(best: u64, ends: Ends, from: Centres, to: Centres, case: u8) -> u64
-    requires ends { IsEnds ends × ((1 ≤ case) × (case ≤ 4)) }
+fn better_length(best: u64, ends: Ends, from: Centres, to: Centres, case: Case) -> u64
+    requires ends { IsEnds ends }
     requires are_centres { AreCentres ends.start ends.radius ends.leave from }
     requires are_centres_2 { AreCentres ends.end ends.radius ends.arrive to }
-    ensures { (f : Found) → Measures f best → Measures (shorter_of f (case_path ends case)) result }
+    ensures { (f : Option Path) → Measures f best → Measures (shorter_of f (case_path ends case)) result }
 {
-    let start = centre_on(from, starts_right(case));
-    let end = centre_on(to, ends_right(case));
+    let start = centre_on(from, case.starts_right());
+    let end = centre_on(to, case.ends_right());
     let circles = circles_at(start, end);
     let v = circles.v;
     if !tangent_exists(v, ends.radius, case) {
@@ -472,14 +455,14 @@ fn outer_length(ends: Ends, from: Centres, to: Centres) -> u64
     requires ends { IsEnds ends }
     requires are_centres { AreCentres ends.start ends.radius ends.leave from }
     requires are_centres_2 { AreCentres ends.end ends.radius ends.arrive to }
-    ensures { Measures (shorter_of (shorter_of Missing (case_path ends 1)) (case_path ends 4)) result }
+    ensures { Measures (shorter_of (shorter_of None (case_path ends Case.Rsr)) (case_path ends Case.Lsl)) result }
 {
     if left_nearer(from, to) {
-        let lsl = better_length(NO_LENGTH, ends, from, to, 4);
-        better_length(lsl, ends, from, to, 1)
+        let lsl = better_length(NO_LENGTH, ends, from, to, Case::Lsl);
+        better_length(lsl, ends, from, to, Case::Rsr)
     } else {
-        let rsr = better_length(NO_LENGTH, ends, from, to, 1);
-        better_length(rsr, ends, from, to, 4)
+        let rsr = better_length(NO_LENGTH, ends, from, to, Case::Rsr);
+        better_length(rsr, ends, from, to, Case::Lsl)
     }
 }
 
@@ -494,8 +477,8 @@ pub fn shortest_length(ends: Ends) -> u64
     let from = both_centres(start, ends.radius, ends.leave);
     let to = both_centres(end, ends.radius, ends.arrive);
     let outer = outer_length(ends, from, to);
-    let rsl = better_length(outer, ends, from, to, 2);
-    let best = better_length(rsl, ends, from, to, 3);
+    let rsl = better_length(outer, ends, from, to, Case::Rsl);
+    let best = better_length(rsl, ends, from, to, Case::Lsr);
     if best < NO_LENGTH { best } else { 0 }
 }
 
@@ -505,16 +488,10 @@ pub fn has_path(ends: Ends) -> bool
     ensures value { result ≡ has_path_of ends }
     ensures existence { Existence ends }
 {
-    if case_exists(ends, 1) {
-        return true;
-    }
-    if case_exists(ends, 2) {
-        return true;
-    }
-    if case_exists(ends, 3) {
-        return true;
-    }
-    case_exists(ends, 4)
+    case_exists(ends, Case::Rsr)
+        || case_exists(ends, Case::Rsl)
+        || case_exists(ends, Case::Lsr)
+        || case_exists(ends, Case::Lsl)
 }
 
 // Whether the squared distance in north and east is at least 9 R².

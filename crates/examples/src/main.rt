@@ -21,7 +21,7 @@ use plan::{Head, Mode, Plan};
 use plane::Point;
 use records::{u16_at, u32_at};
 use text::float;
-use units::{Fix, Position};
+use units::Fix;
 
 // The first byte of a block.
 const STATE_LETTER: u8 = 0x53;
@@ -113,12 +113,12 @@ fn show_fix(rt: HostRuntime, name: &[u8], north: f32) {
         down: 0.0,
     });
     match p {
-        Position::At(p) => {
+        Some(p) => {
             write(rt, b" is ");
             write_number(rt, north_of(p));
             write(rt, b"\n");
         }
-        Position::Nowhere => write(rt, b" refused 13\n"),
+        None => write(rt, b" refused 13\n"),
     }
 }
 

@@ -8,11 +8,11 @@ use native.Mathlib.Omega.{arith}
 use lib.Dec.{eqb}
 use lib.Ieee.{Float}
 use borrow.Author.Tests.{eqb-true, eqb-false}
+use Rattle.std.specs.Prelude.{Some}
 use Rattle.conditions.proofs.Bools.{by_bool}
 use Rattle.refusals.specs.Outcome.{Outcome, good, refused}
 use Rattle.refusals.specs.Sweep.{done}
 use Rattle.plane.specs.declared.Point.{Point}
-use Rattle.units.specs.declared.Position.TheVariants.{At}
 use Rattle.units.specs.Position.{position_of}
 use Rattle.guidance.specs.declared.Command.TheVariants.{Nothing}
 use Rattle.guidance.specs.Commands.{PlainCommand, HasCommand}
@@ -101,7 +101,7 @@ module _ (r : ℕ) (f : List ℕ) where
 
 -- ---- the answer to the last fix of a list
 last-answered : (s : State) (n : ℕ) (before : List Named) (x : Named) → Answered n (before ++ (x ∷ [])) (run s (before ++ (x ∷ []))) → x.serial ≡ n → (p : Point)
-    → position_of x.fix ≡ At p
+    → position_of x.fix ≡ Some p
     → ((step_by (last_of s (run s before)) x).answer.refusal ≡ 0) × ((step_by (last_of s (run s before)) x).answer.command ≡ Nothing → ⊥)
 unfolding run last_of
 last-answered s n [] x a e p at = let y = a.0 e p at in (y.0, λ none. subst HasCommand none y.1)

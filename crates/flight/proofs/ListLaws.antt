@@ -1,14 +1,15 @@
 -- The lists of a flight, fix by fix: what is left of them, and what is left to write. Assumes nothing.
 use mathlib.Core.Path.{◌≡◌, refl, sym, ◌∙◌}
-use mathlib.Core.Bool.{true, false}
+use mathlib.Core.Bool.{Bool, true, false, ◌&&◌}
 use mathlib.Core.List.{List, [], ◌∷◌}
 use Prim.Native.Nat.{ℕ, suc, ◌+◌, ◌*◌, ◌/◌, ◌%◌, ◌-◌, ◌≤◌, ◌<◌}
 use native.Mathlib.Omega.{arith}
-use lib.Dec.{leb}
+use lib.Dec.{leb, eqb}
 use lib.ListN.{length}
 use lib.Ieee.{Float}
-use borrow.Author.Tests.{leb-true, leb-false, le-leb, lt-leb, eqb-true, eq-eqb, ne_eqb}
-use Rattle.conditions.proofs.Bools.{by_bool, both-on, both-off, both-off-second, both_first, both-second}
+use borrow.Author.Tests.{leb-true, leb-false, le-leb, lt-leb, eqb-true, eqb-false, eq-eqb, ne_eqb}
+use Rattle.conditions.specs.Both.{both}
+use Rattle.conditions.proofs.Bools.{by_bool, both_first, both-second}
 use Rattle.buffers.specs.Splice.{over, splice}
 use Rattle.buffers.proofs.SpliceLaws.{further, unchanged, at_front}
 use Rattle.manager.specs.declared.State.{State}
@@ -90,9 +91,6 @@ module _ (serials : List ℕ) (fixes : List Float) (n i : ℕ) where
 -- ---- the loop over the lists: what is left, flown from the state reached and written from the places reached, gives what the whole gives
 pub record Underway (serials : List ℕ) (fixes : List Float) (answers₀ : List ℕ) (commands₀ : List Float) (state₀ : State) (answers : List ℕ)
     (commands : List Float) (state : State) (i : ℕ) : Type 0 where
-  pub inside : i ≤ length serials
-  pub answers-kept : length answers ≡ length answers₀
-  pub commands-kept : length commands ≡ length commands₀
   pub last : last_of state (run state (named_from serials fixes (length serials - i) i)) ≡ last_of state₀ (run state₀ (named_of serials fixes))
   pub answered : splice (8 * i) (answers_of (run state (named_from serials fixes (length serials - i) i))) answers
       ≡ over (answers_of (run state₀ (named_of serials fixes))) answers₀
@@ -105,27 +103,21 @@ module _ (serials : List ℕ) (fixes : List Float) (answers₀ : List ℕ) (comm
   starts =
       let e : length serials - 0 ≡ length serials = omega arith in
       record {
-        inside = omega arith;
-        answers-kept = refl;
-        commands-kept = refl;
         last = rw e;
         answered = rw e (at_front (answers_of (run state₀ (named_from serials fixes (length serials) 0))) answers₀);
         commanded = rw e (at_front (commands_of (run state₀ (named_from serials fixes (length serials) 0))) commands₀);
       }
 
   module _ (answers : List ℕ) (commands : List Float) (state : State) (i : ℕ) (u : Underway serials fixes answers₀ commands₀ state₀ answers commands state i) where
-    pub goes_on : (fits : Fits (length serials) (length fixes) (length answers₀) (length commands₀)) (x : Stepped) (next : List ℕ) (more : List Float)
-        → i < length serials → x ≡ step_by state (named_at serials fixes i) → next ≡ splice (8 * i) (answer_words x.answer) answers → length next ≡ length answers
-        → more ≡ splice (6 * i) (command_numbers x.answer.command) commands → length more ≡ length commands
+    pub goes_on : (x : Stepped) (next : List ℕ) (more : List Float) → i < length serials → x ≡ step_by state (named_at serials fixes i)
+        → 8 * i ≤ length answers → next ≡ splice (8 * i) (answer_words x.answer) answers
+        → 6 * i ≤ length commands → more ≡ splice (6 * i) (command_numbers x.answer.command) commands
         → Underway serials fixes answers₀ commands₀ state₀ next more x.state (i + 1)
-    goes_on fits x next more h e a la m lm =
+    goes_on x next more h e al a cl m =
         record {
-          inside = omega arith;
-          answers-kept = la ∙ u.answers-kept;
-          commands-kept = lm ∙ u.commands-kept;
           last = last_on serials fixes (length serials) i state x h e ∙ u.last;
-          answered = answers-on serials fixes (length serials) i state x h e answers next (omega (arith, fits.answers, u.answers-kept)) a ∙ u.answered;
-          commanded = commands-on serials fixes (length serials) i state x h e commands more (omega (arith, fits.commands, u.commands-kept)) m ∙ u.commanded;
+          answered = answers-on serials fixes (length serials) i state x h e answers next al a ∙ u.answered;
+          commanded = commands-on serials fixes (length serials) i state x h e commands more cl m ∙ u.commanded;
         }
 
     module _ (h : length serials ≤ i) where
@@ -144,22 +136,24 @@ same_test n c m d f g =
     by_bool (leb n c) (λ t. t ∙ sym (le-leb m d (f (leb-true n c t))))
     (λ t. t ∙ sym (lt-leb m d (let l = leb-false n c t in by_bool (leb m d) (λ u. let k = g (leb-true m d u) in absurd (omega arith)) (λ u. leb-false m d u))))
 
-module _ (n f a c : ℕ) where
-  pub fixes-cut : (f % 3 ≡ 0 → ⊥) → fits_of n f a c ≡ false
-  unfolding fits_of
-  fixes-cut h = both-off _ _ (ne_eqb f (3 * n) (λ e. h (omega arith)))
+thirds : (n f : ℕ) → (eqb (f % 3) 0 && eqb (f / 3) n) ≡ eqb f (3 * n)
+thirds n f =
+    by_bool (eqb f (3 * n))
+    (λ t. let e = eqb-true f (3 * n) t in rw (eq-eqb (f % 3) 0 (omega arith), eq-eqb (f / 3) n (omega arith)) (sym t))
+    (λ t.
+    let ne = eqb-false f (3 * n) t in
+    by_bool (eqb (f % 3) 0) (λ z. let m = eqb-true (f % 3) 0 z in rw (z, ne_eqb (f / 3) n (λ q. ne (omega arith))) (sym t)) (λ z. rw z (sym t)))
 
-  pub fixes-other : f % 3 ≡ 0 → (f / 3 ≡ n → ⊥) → fits_of n f a c ≡ false
-  unfolding fits_of
-  fixes-other z h = both-off _ _ (ne_eqb f (3 * n) (λ e. h (omega arith)))
+in_turn : (p q r : Bool) → ((p && q) && r) ≡ both p (both q r)
+unfolding both
+in_turn true true r = refl
+in_turn true false r = refl
+in_turn false q r = refl
 
-  module _ (z : f % 3 ≡ 0) (e : f / 3 ≡ n) where
-    pub answers-short : a / 8 < n → fits_of n f a c ≡ false
-    unfolding fits_of
-    answers-short h = both-off-second _ _ (both-off _ _ (lt-leb (8 * n) a (omega arith)))
-
-    pub commands-test : n ≤ a / 8 → leb n (c / 6) ≡ fits_of n f a c
-    unfolding fits_of
-    commands-test h =
-        let t = same_test n (c / 6) (6 * n) c (λ l. omega arith) (λ l. omega arith) in
-        t ∙ sym (both-on _ _ (eq-eqb f (3 * n) (omega arith)) ∙ both-on _ _ (le-leb (8 * n) a (omega arith)))
+-- divided, and one after the other
+pub divided : (n f a c : ℕ) → fits_of n f a c ≡ (((eqb (f % 3) 0 && eqb (f / 3) n) && leb n (a / 8)) && leb n (c / 6))
+unfolding fits_of
+divided n f a c =
+    let words = same_test n (a / 8) (8 * n) a (λ l. omega arith) (λ l. omega arith) in
+    let numbers = same_test n (c / 6) (6 * n) c (λ l. omega arith) (λ l. omega arith) in
+    rw (thirds n f, words, numbers) (sym (in_turn _ _ _))

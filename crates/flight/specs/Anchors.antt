@@ -1,12 +1,11 @@
 -- Holds clauses 15.8 to 15.16, 17.12: what the words of these clauses and of two flights have to mean. Each law here fails where one of their
 -- definitions says less: a field or a case that is dropped, a thing that is compared with itself, a hypothesis that nothing meets. Assumes
 -- nothing.
-use Rattle.std.specs.Prelude.{◌≡◌, true, false, List, [], ◌∷◌, ◌⊎◌, ◌↔◌, ℕ, ◌≤◌, ◌<◌, Float}
+use Rattle.std.specs.Prelude.{◌≡◌, true, false, List, [], ◌∷◌, ◌⊎◌, ◌↔◌, ℕ, ◌≤◌, ◌<◌, Float, Some}
 use Rattle.conditions.specs.All.{All}
 use Rattle.refusals.specs.Outcome.{good}
 use Rattle.refusals.specs.Sweep.{done}
 use Rattle.plane.specs.declared.Point.{Point}
-use Rattle.units.specs.declared.Position.TheVariants.{At}
 use Rattle.units.specs.Position.{position_of}
 use Rattle.guidance.specs.declared.Command.TheVariants.{Nothing}
 use Rattle.guidance.specs.Commands.{PlainCommand}
@@ -37,7 +36,7 @@ pub record Outright : Type 0 where
       × (records_of (with_header 3 (serial_of f) (flat (sift (records_of f)))) ≡ sift (records_of f))
   pub valid : (r : ℕ) (f : List ℕ) (s : State) → load_of r f ≡ good s → valid_of s ≡ true
   -- the answer to a fix after any others
-  pub flies : (r : ℕ) (f : List ℕ) (s : State) → load_of r f ≡ good s → (before : List Named) (x : Named) → x.serial ≡ serial_of f → (p : Point) → position_of x.fix ≡ At p
+  pub flies : (r : ℕ) (f : List ℕ) (s : State) → load_of r f ≡ good s → (before : List Named) (x : Named) → x.serial ≡ serial_of f → (p : Point) → position_of x.fix ≡ Some p
       → ((step_by (last_of s (run s before)) x).answer.refusal ≡ 0) × ((step_by (last_of s (run s before)) x).answer.command ≡ Nothing → ⊥)
   pub plain : (s : State) (before : List Named) (x : Named) → PlainCommand (step_by (last_of s (run s before)) x).answer.command
 

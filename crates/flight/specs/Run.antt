@@ -1,8 +1,7 @@
 -- Clauses 15.7, 15.10, 15.11, 15.14 to 15.16: a run over a list of fixes, each from the state before it. Assumes nothing.
-use Rattle.std.specs.Prelude.{◌≡◌, List, [], ◌∷◌, ℕ}
+use Rattle.std.specs.Prelude.{◌≡◌, List, [], ◌∷◌, ℕ, Some}
 use Rattle.plane.specs.declared.Point.{Point}
 use Rattle.units.specs.declared.Fix.{Fix}
-use Rattle.units.specs.declared.Position.TheVariants.{At}
 use Rattle.units.specs.Position.{position_of}
 use Rattle.guidance.specs.Commands.{PlainCommand, HasCommand}
 use Rattle.manager.specs.declared.State.{State}
@@ -48,7 +47,7 @@ pub data AlikeRuns : List Stepped → List Stepped → Type 0 where
 abbrev pub Answered : ℕ → List Named → List Stepped → Type 0
 Answered serial [] [] = Unit {0}
 Answered serial (x ∷ xs) (o ∷ os) =
-    (x.serial ≡ serial → (p : Point) → position_of x.fix ≡ At p → (o.answer.refusal ≡ 0) × HasCommand o.answer.command) × Answered serial xs os
+    (x.serial ≡ serial → (p : Point) → position_of x.fix ≡ Some p → (o.answer.refusal ≡ 0) × HasCommand o.answer.command) × Answered serial xs os
 Answered serial [] (o ∷ os) = ⊥
 Answered serial (x ∷ xs) [] = ⊥
 

@@ -1,10 +1,9 @@
 -- Holds clauses 15.8 to 15.13: files in bytes, worked out by hand from sections 3 and 4: what the clauses take for granted, there is. One list
 -- of claims. Assumes nothing.
-use Rattle.std.specs.Prelude.{◌≡◌, false, List, [], ◌∷◌, ◌++◌, ℕ, ◌-◌, ℤ, pos, negsuc, length, replicate}
+use Rattle.std.specs.Prelude.{◌≡◌, false, List, [], ◌∷◌, ◌++◌, ℕ, ◌-◌, ℤ, pos, negsuc, length, replicate, Some}
 use Rattle.refusals.specs.Outcome.{good, refused}
 use Rattle.plane.specs.declared.Point.{Point}
 use Rattle.units.specs.declared.Fix.{Fix}
-use Rattle.units.specs.declared.Position.TheVariants.{At}
 use Rattle.units.specs.Position.{position_of}
 use Rattle.units.specs.CheckedExamples.{fix_of}
 use Rattle.plan.specs.declared.Mode.{Mode}
@@ -123,7 +122,7 @@ ClaimHolds (writes s version f) = write_of s version (length f) ≡ good f
 ClaimHolds (cuts f g) = IsLater f × (cut_out f ≡ g)
 ClaimHolds (stays f) = IsLater f → ⊥
 ClaimHolds (steers s fix p heading) =
-    (position_of fix ≡ At p) × (((step_of s s.plan.head.serial fix).answer.refusal ≡ 0) × ((step_of s s.plan.head.serial fix).answer.heading ≡ heading))
+    (position_of fix ≡ Some p) × (((step_of s s.plan.head.serial fix).answer.refusal ≡ 0) × ((step_of s s.plan.head.serial fix).answer.heading ≡ heading))
 
 abbrev pub claims : List Claim
 claims =

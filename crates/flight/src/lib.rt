@@ -19,6 +19,7 @@ use units::Fix;
 pub const FIX_NUMBERS: usize = 3;
 
 // The state after the last fix, or a refusal with its place.
+// No Result: refused too it has a state, which `run` and `fly` promise in their clause `value` (`flown_of`), so that an Err would carry one as well.
 #[derive(Clone, Copy)]
 pub struct Flown {
     pub refusal: u8,
@@ -26,21 +27,19 @@ pub struct Flown {
     pub state: State,
 }
 
-// Whether each fix has its serial, its numbers and room for its answer.
+// Whether each fix has its serial, its numbers and room for its answer. It divides, so that no length is multiplied past its type.
+#[tactic(auto, using(crate::proofs::ListLaws::divided))]
 fn fits(count: usize, fixes: usize, answers: usize, commands: usize) -> bool
     ensures { result ≡ fits_of count fixes answers commands }
 {
-    if fixes % FIX_NUMBERS == 0 {
-        if fixes / FIX_NUMBERS == count {
-            if count <= answers / c_answer::ANSWER {
-                return count <= commands / c_answer::COMMAND;
-            }
-        }
-    }
-    false
+    fixes % FIX_NUMBERS == 0
+        && fixes / FIX_NUMBERS == count
+        && count <= answers / c_answer::ANSWER
+        && count <= commands / c_answer::COMMAND
 }
 
 // A fix of the list, counted from 0.
+// No slice of fixes: `fits_of` and `OlderFlights` speak of numbers that are no whole fixes too, or of another number of fixes than serials.
 fn fix_at(fixes: &[f32], i: usize) -> Fix
     requires { 3 * i + 2 < length fixes.now }
     ensures { result ≡ fix_at fixes.now i }
@@ -54,6 +53,7 @@ fn fix_at(fixes: &[f32], i: usize) -> Fix
 }
 
 // Every fix of the lists in turn, from a state on. The answer is the state after the last one.
+// No struct of the four: two are lent to write in, and each caller would build it for one call and take those out again.
 fn fly_all(
     start: State,
     serials: &[u32],
@@ -67,16 +67,11 @@ fn fly_all(
     ensures commands_after { commands.new ≡ over (commands_of (run start (named_of serials.now fixes.now))) commands.old }
 {
     let mut state = start;
-    let mut i: usize = 0;
-    while i < serials.len() {
-        let stepped = state.step(serials[i], fix_at(fixes, i));
-        let answer = stepped.answer;
-        let command = answer.command;
-        c_answer::put_answer_at(answer, c_answer::ANSWER * i, answers);
-        c_answer::put_command_at(command, c_answer::COMMAND * i, commands);
-        let next = stepped.state;
-        state = next;
-        i += 1;
+    for (i, serial) in serials.iter().enumerate() {
+        let stepped = state.step(*serial, fix_at(fixes, i));
+        c_answer::put_answer_at(stepped.answer, c_answer::ANSWER * i, answers);
+        c_answer::put_command_at(stepped.answer.command, c_answer::COMMAND * i, commands);
+        state = stepped.state;
     }
     state
 }

@@ -1,4 +1,5 @@
 -- Every guide function commands a line or a circle, of plain numbers. Assumes nothing.
+use Rattle.std.proofs.Common.{Option, Some, None}
 use mathlib.Core.Path.{◌≡◌, subst}
 use mathlib.Core.Bool.{Bool, true, false}
 use Prim.Native.Nat.{ℕ, ◌+◌, ◌≤◌}
@@ -22,10 +23,9 @@ use Rattle.units.proofs.QuotientLaws.{metres-plain, direction-plain}
 use Rattle.fillets.specs.Corners.{corner_turn, corner_of}
 use Rattle.fillets.proofs.TangentLaws.{tangent-le}
 use Rattle.fillets.proofs.CornerLaws.{rounded-is}
+use Rattle.dubins.specs.declared.Case.{Case}
 use Rattle.dubins.specs.declared.Ends.{Ends}
 use Rattle.dubins.specs.declared.Path.{Path}
-use Rattle.dubins.specs.declared.Found.{Found}
-use Rattle.dubins.specs.declared.Found.TheVariants.{Shortest, Missing}
 use Rattle.dubins.specs.Cases.{starts_right, ends_right, centre_of, circles_of, case_exists, touch_of, path_of}
 use Rattle.dubins.specs.Choice.{case_path, shortest_of, Wins, IsShortest}
 use Rattle.dubins.proofs.ShortestLaws.{shortest-is}
@@ -107,9 +107,9 @@ fillet-command a b c R phase p h k r t =
 abbrev Reaches : Path → Type 0
 Reaches path = Near 1000000 path.start × (Near 1000000 path.end × Near 1000000 path.z1)
 
-abbrev FoundReaches : Found → Type 0
-FoundReaches (Shortest path) = Reaches path
-FoundReaches Missing = Unit {0}
+abbrev FoundReaches : Option Path → Type 0
+FoundReaches (Some path) = Reaches path
+FoundReaches None = Unit {0}
 
 module _ (ends : Ends) (h : InArea ends.start) (k : InArea ends.end) (r : ends.radius ≤ 10000) where
   turned-near : (n : ℕ) (v : Vector) (χ : ℕ) → Near n v → Near (n + 10000) (plus v (offset_of ends.radius χ))
@@ -119,19 +119,19 @@ module _ (ends : Ends) (h : InArea ends.start) (k : InArea ends.end) (r : ends.r
   unfolding centre_of
   centre-of-near p χ right q = turned-near 500000 (level_of p) (sideways_of χ right) (level-near p q)
 
-  case-reaches : (case s θ : ℕ) → Reaches (path_of ends case (circles_of ends case) s θ)
+  case-reaches : (case : Case) (s θ : ℕ) → Reaches (path_of ends case (circles_of ends case) s θ)
   unfolding path_of circles_of touch_of
   case-reaches case s θ =
       let start = centre-of-near ends.start ends.leave (starts_right case) h in
       let end = centre-of-near ends.end ends.arrive (ends_right case) k in
       (near_le (leb→le 510000 1000000 tt) start, (near_le (leb→le 510000 1000000 tt) end, near_le (leb→le 520000 1000000 tt) (turned-near 510000 _ _ start)))
 
-  found-reaches : (t : Bool) (path : Path) → Reaches path → FoundReaches (choose t (Shortest path) Missing)
+  found-reaches : (t : Bool) (path : Path) → Reaches path → FoundReaches (choose t (Some path) None)
   unfolding choose
   found-reaches true path q = q
   found-reaches false path q = tt
 
-  shortest-reaches : (path : Path) → shortest_of ends ≡ Shortest path → Reaches path
+  shortest-reaches : (path : Path) → shortest_of ends ≡ Some path → Reaches path
   unfolding case_path
   shortest-reaches path e =
       let w : Wins ends path = subst (IsShortest ends) e (shortest-is ends) in
@@ -141,7 +141,7 @@ module _ (ends : Ends) (h : InArea ends.start) (k : InArea ends.end) (r : ends.r
   unfolding straight_guide
   straight-command path p q = course-is path.z1 ends.start path.course q h
 
-  pub dubins-command : (path : Path) (phase : ℕ) (p : Point) → shortest_of ends ≡ Shortest path → IsCommand (dubins_guide ends path phase p).command
+  pub dubins-command : (path : Path) (phase : ℕ) (p : Point) → shortest_of ends ≡ Some path → IsCommand (dubins_guide ends path phase p).command
   unfolding dubins_guide
   dubins-command path phase p e =
       let q = shortest-reaches path e in

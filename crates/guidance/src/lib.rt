@@ -314,7 +314,7 @@ pub fn dubins_guide(ends: Ends, path: Path, phase: u8, at: Point) -> Guidance
             centre,
             start,
             ends.radius,
-            dubins::starts_right(path.case),
+            path.case.starts_right(),
             passed,
             at,
         );
@@ -325,7 +325,7 @@ pub fn dubins_guide(ends: Ends, path: Path, phase: u8, at: Point) -> Guidance
         centre,
         end,
         ends.radius,
-        dubins::ends_right(path.case),
+        path.case.ends_right(),
         passed,
         at,
     )

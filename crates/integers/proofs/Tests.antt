@@ -1,12 +1,9 @@
--- A signed test of the code as an order; what a cast of a signed number asks. Assumes nothing.
+-- A signed test of the code as an order. Assumes nothing.
 use mathlib.Core.Path.{◌≡◌, sym, subst}
 use mathlib.Core.Bool.{Bool, true, false, not}
-use native.Mathlib.Nat.{lt_of_le_of_lt}
-use lib.Dec.{T, lit<}
-use lib.IntN.{ℤ, pos, nat_abs}
-use lib.Signed.{lt_z, non_neg, ◌≤ℤ◌, ◌<ℤ◌, lt_z_yes, lt_z_no, yes_non_neg, nat_abs-le}
-use mir.Syntax.{w64}
-use mir.Val.{Fits, SFits}
+use lib.Dec.{T}
+use lib.IntN.{ℤ}
+use lib.Signed.{lt_z, ◌≤ℤ◌, ◌<ℤ◌, lt_z_yes, lt_z_no}
 
 true-T : (t : Bool) → t ≡ true → T t
 true-T t e = subst T (sym e) tt
@@ -20,7 +17,3 @@ lt_yes y z e = lt_z_yes (true-T (lt_z y z) e)
 
 pub lt_no : (y z : ℤ) → lt_z y z ≡ false → z ≤ℤ y
 lt_no y z e = lt_z_no (false-T (lt_z y z) e)
-
--- ---- what `x as u64` asks
-pub to-u64 : (z : ℤ) → pos 0 ≤ℤ z → SFits w64 z → T (non_neg z) × Fits w64 (nat_abs z)
-to-u64 z h f = (yes_non_neg h, record { fits = lt_of_le_of_lt (nat_abs-le z f.sfits) (lit< tt) })

@@ -1,52 +1,20 @@
--- Numbers by digits in base 2^42: their order, the carry of a product by one digit more, and the halves of two digits. The laws of order
--- and of the carry are over any base W. Assumes nothing.
+-- Numbers by digits in base 2^42: their order, the carry of a product by one digit more, over any base W, and the halves of two digits. Assumes
+-- nothing.
 use mathlib.Core.Path.{◌≡◌, sym, ap}
-use mathlib.Core.Bool.{true, false}
 use Prim.Native.Nat.{ℕ, ◌+◌, ◌*◌, ◌/◌, ◌%◌, ◌≤◌, ◌<◌}
-use native.Mathlib.Nat.{mul-le-mul, mul-le-mul_right, div-add-mod', le_of_lt}
+use native.Mathlib.Nat.{mul-le-mul, div-add-mod'}
 use native.Mathlib.Omega.{arith}
 use lib.Dec.{leb}
-use borrow.Author.Tests.{le-leb, lt-leb}
+use Rattle.std.proofs.lemmas.Bool.Decides.{nat_tests}
+use Rattle.std.specs.Ordering.{partial_ge}
 use Rattle.integers.specs.declared.Triple.{Triple}
+use Rattle.integers.specs.contracts.TriplePartialOrd.TheImpl.{partial_cmp-value}
 use Rattle.integers.specs.Wide.{base, triple_of, Limbs}
 
--- ---- the order: the first digit that differs decides
-digit_lt : (W p q l m : ℕ) → p < q → l < W → p * W + l < q * W + m
-digit_lt W p q l m h k = omega (arith, mul-le-mul_right W h)
-
-digit-le : (W p q l m : ℕ) → p ≤ q → l ≤ m → p * W + l ≤ q * W + m
-digit-le W p q l m h k = omega (arith, mul-le-mul_right W h)
-
--- a is less than b
-module _ (a b : Triple) where
-  pub high-less : a.high < b.high → Limbs a → triple_of a < triple_of b
-  unfolding triple_of
-  high-less h k =
-      digit_lt base (a.high * base + a.middle) (b.high * base + b.middle) a.low b.low (digit_lt base a.high b.high a.middle b.middle h k.middle) k.low
-
-  pub middle-less : a.high ≤ b.high → a.middle < b.middle → Limbs a → triple_of a < triple_of b
-  unfolding triple_of
-  middle-less h m k =
-      digit_lt base (a.high * base + a.middle) (b.high * base + b.middle) a.low b.low (omega (arith, mul-le-mul_right base h)) k.low
-
-  pub low-less : a.high ≤ b.high → a.middle ≤ b.middle → a.low < b.low → triple_of a < triple_of b
-  unfolding triple_of
-  low-less h m l =
-      omega (arith, mul-le-mul_right base (digit-le base a.high b.high a.middle b.middle h m))
-
-  pub none_more : a.high ≤ b.high → a.middle ≤ b.middle → a.low ≤ b.low → triple_of a ≤ triple_of b
-  unfolding triple_of
-  none_more h m l =
-      digit-le base (a.high * base + a.middle) (b.high * base + b.middle) a.low b.low (digit-le base a.high b.high a.middle b.middle h m) l
-
--- what the code returns
-pub at_least : (a b : Triple) → triple_of b ≤ triple_of a → true ≡ leb (triple_of b) (triple_of a)
-at_least a b h = sym (le-leb (triple_of b) (triple_of a) h)
-
-pub below : (a b : Triple) → triple_of a < triple_of b → false ≡ leb (triple_of b) (triple_of a)
-below a b h = sym (lt-leb (triple_of b) (triple_of a) h)
-
-pub ruleset order = (at_least, below, le_of_lt, high-less, middle-less, low-less, none_more)
+-- ---- the order: that of the digits, the first that differs
+pub order-is : (a b : Triple) → Limbs a → Limbs b → partial_ge partial_cmp-value.it a b ≡ leb (triple_of b) (triple_of a)
+unfolding triple_of
+order-is a b h k = grind (arith, nat_tests)
 
 -- ---- the digits of a product by one digit more, with the carry
 pub carry : (W ph pl qh ql h l a : ℕ) → ph * W + pl ≡ h * a → qh * W + ql ≡ l * a

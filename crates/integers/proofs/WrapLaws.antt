@@ -1,17 +1,12 @@
 -- Laws of wrap_of: its range, and what it is of sums and differences of courses. Assumes nothing.
 use mathlib.Core.Path.{◌≡◌, refl, ap, ◌∙◌}
 use Prim.Native.Nat.{ℕ, zero, suc, ◌+◌, ◌-◌, ◌%◌, ◌<◌, ◌≤◌}
-use native.Mathlib.Nat.{lt_of_le_of_lt}
 use native.Mathlib.Decide.{dec_lt}
 use native.Mathlib.Omega.{arith}
 use lib.IntN.{ℤ, pos, negsuc, nat_abs, ◌+ℤ◌, ◌-ℤ◌}
-use lib.Signed.{◌≤ℤ◌, quot_z, rem_z, nat_abs-le}
-use mir.Syntax.{w64}
-use mir.Val.{SFits}
-use Rattle.integers.specs.Bounds.{Within}
+use Rattle.std.specs.Int.{int_rem_euclid}
 use Rattle.integers.specs.Wrap.{wrap_of}
-use Rattle.integers.proofs.Magnitudes.{abs-quot, abs-rem, mag-le}
-use Rattle.integers.proofs.Ring.{lit, neg, add, sub, same, le, diff-le}
+use Rattle.integers.proofs.Ring.{lit, neg, sub, same, diff-le}
 
 pub wrap-lt : (z : ℤ) → wrap_of z < 4096
 unfolding wrap_of
@@ -23,26 +18,10 @@ pub wrap-low : {r : ℕ} (z : ℤ) → r ≡ wrap_of z → (r ≡ wrap_of z) × 
 wrap-low z e = (e, omega (arith, e, wrap-lt z))
 
 -- what the code computes
-pub rem-within : (z : ℤ) → Within 4095 (rem_z z (pos 4096))
-rem-within z = record { within = omega (arith, abs-rem z (pos 4096)) }
-
-pub quot_fits : (z : ℤ) → SFits w64 z → SFits w64 (quot_z z (pos 4096))
-quot_fits z f = record { sfits = lt_of_le_of_lt (mag-le (quot_z z (pos 4096))) (omega (arith, abs-quot z (pos 4096), nat_abs-le z f.sfits)) }
-
-shifted : (n : ℕ) → rem_z (negsuc n) (pos 4096) +ℤ pos 4096 ≡ pos (4096 - suc n % 4096)
-shifted n = same (add (neg (lit (suc n % 4096))) (lit 4096)) (lit (4096 - suc n % 4096)) (omega arith)
-
-pub wrap-nonneg : (z : ℤ) → pos 0 ≤ℤ (rem_z z (pos 4096) +ℤ pos 4096)
-wrap-nonneg (pos n) = le (lit 0) (add (lit (n % 4096)) (lit 4096)) (omega arith)
-wrap-nonneg (negsuc n) = le (lit 0) (add (neg (lit (suc n % 4096))) (lit 4096)) (omega arith)
-
-pub wrap-is : (z : ℤ) → nat_abs (rem_z z (pos 4096) +ℤ pos 4096) % 4096 ≡ wrap_of z
+pub rem-is : (z : ℤ) → nat_abs (int_rem_euclid z (pos 4096)) ≡ wrap_of z
 unfolding wrap_of
-wrap-is (pos n) = omega arith
-wrap-is (negsuc n) = ap (λ (x : ℤ). nat_abs x % 4096) (shifted n) ∙ rounded n
-  where
-    rounded : (n : ℕ) → (4096 - suc n % 4096) % 4096 ≡ 4095 - n % 4096
-    rounded n = omega arith
+rem-is (pos n) = refl
+rem-is (negsuc n) = omega arith
 
 -- two courses
 pub wrap-add : (a b : ℕ) → wrap_of (pos a +ℤ pos b) ≡ (a + b) % 4096

@@ -5,14 +5,15 @@ use Prim.Native.Nat.{ℕ, ◌-◌, ◌<◌}
 use native.Mathlib.Omega.{arith}
 use lib.Dec.{eqb}
 use borrow.Author.Tests.{eqb-true, le-ltb}
+use Rattle.std.specs.Prelude.{Some}
 use Rattle.conditions.specs.Choose.{choose}
 use Rattle.conditions.proofs.ChooseLaws.{choose-true}
 use Rattle.conditions.proofs.Bools.{by_bool, both_first, both-second}
 use Rattle.plane.specs.declared.Point.{Point}
 use Rattle.units.specs.declared.Fix.{Fix}
-use Rattle.units.specs.declared.Position.TheVariants.{At}
 use Rattle.units.specs.Position.{position_of}
-use Rattle.dubins.specs.declared.Found.{Found}
+use Rattle.std.proofs.Common.{Option}
+use Rattle.dubins.specs.declared.Path.{Path}
 use Rattle.dubins.specs.Choice.{shortest_of}
 use Rattle.guidance.specs.Guide.{leg_guide, last_leg_guide, circle_guide, dubins_guide}
 use Rattle.guidance.proofs.EndLaws.{ended-there, phase-5-there}
@@ -65,7 +66,7 @@ unfolding path_guide dubins_guide circle_guide choose
 path-passed s v e =
     let ends = ends_of s.plan s.progress.index in
     let found = valid-path s v e in
-    ap (λ (f : Found). (path_guide ends 5 ends.end f).passed) found.1 ∙ phase-5-there ends.end ends.arrive
+    ap (λ (f : Option Path). (path_guide ends 5 ends.end f).passed) found.1 ∙ phase-5-there ends.end ends.arrive
 
 by_mode : {A : Type 0} (m : Mode) → (m ≡ Lines → A) → (m ≡ Fillets → A) → (m ≡ Dubins → A) → A
 by_mode Lines l f d = l refl
@@ -109,7 +110,7 @@ module _ (s : State) (serial : ℕ) (fix : Fix) where
   abbrev step : Stepped
   step = step_of s serial fix
 
-  accepted : (p : Point) → position_of fix ≡ At p → step.answer.refusal ≡ 0 → (valid_of s ≡ true) × (step ≡ moved_of s p)
+  accepted : (p : Point) → position_of fix ≡ Some p → step.answer.refusal ≡ 0 → (valid_of s ≡ true) × (step ≡ moved_of s p)
   accepted p at z =
       by_bool (valid_of s)
       (λ v.
@@ -117,7 +118,7 @@ module _ (s : State) (serial : ℕ) (fix : Fix) where
       (λ n. absurd (refused-not s 15 (omega arith) (rw step-15 at z))))
       (λ v. absurd (refused-not s 14 (omega arith) (rw step-14 at z)))
 
-  sets : ending s ≡ true → position_of fix ≡ At (last_point s.plan) → step.answer.refusal ≡ 0 → step.state.progress.finished ≡ true
+  sets : ending s ≡ true → position_of fix ≡ Some (last_point s.plan) → step.answer.refusal ≡ 0 → step.state.progress.finished ≡ true
   sets e at z =
       let a = accepted (last_point s.plan) at z in
       rw a.1 (finished-there s a.0 e)

@@ -5,15 +5,15 @@ use Prim.Native.Nat.{ℕ, ◌-◌}
 use native.Mathlib.Omega.{arith}
 use lib.Dec.{eqb}
 use borrow.Author.Tests.{eq-eqb}
+use Rattle.std.specs.Prelude.{Option, Some, None}
 use Rattle.conditions.specs.Choose.{choose}
 use Rattle.conditions.proofs.Bools.{by_bool}
 use Rattle.plane.specs.declared.Point.{Point}
 use Rattle.plane.specs.Area.{InArea}
 use Rattle.units.specs.declared.Fix.{Fix}
-use Rattle.units.specs.declared.Position.{Position}
-use Rattle.units.specs.declared.Position.TheVariants.{At, Nowhere}
 use Rattle.units.specs.Position.{position_of}
-use Rattle.dubins.specs.declared.Found.{Found}
+use Rattle.std.proofs.Common.{Option}
+use Rattle.dubins.specs.declared.Path.{Path}
 use Rattle.guidance.specs.declared.Guidance.{Guidance}
 use Rattle.guidance.specs.Commands.{PlainCommand, HasCommand, IsCommand}
 use Rattle.guidance.proofs.CommandLaws.{line-guide-command, last-leg-command, fillet-command, dubins-command}
@@ -57,7 +57,7 @@ module _ (s : State) (v : Valid s) (p : Point) where
   command-by Dubins e =
       let found = valid-path s v e in
       let h : ByMode Dubins s.plan = subst (λ (m : Mode). ByMode m s.plan) e v.stands.mode in
-      subst (λ (f : Found). IsCommand (path_guide (ends_of s.plan i) s.progress.phase p f).command) (sym found.1)
+      subst (λ (f : Option Path). IsCommand (path_guide (ends_of s.plan i) s.progress.phase p f).command) (sym found.1)
       (dubins-command (ends_of s.plan i) start-in end-in h.0 found.0 s.progress.phase p found.1)
 
   guided : IsCommand (guide_here s p).command
@@ -68,10 +68,10 @@ refuse-plain : (s : State) (number : ℕ) → PlainCommand (refuse_of s number).
 unfolding refuse_of
 refuse-plain s number = tt
 
-located-plain : (s : State) → Valid s → (position : Position) → PlainCommand (located_step s position).answer.command
+located-plain : (s : State) → Valid s → (position : Option Point) → PlainCommand (located_step s position).answer.command
 unfolding located_step moved_of
-located-plain s v (At p) = (guided s v p).plain
-located-plain s v Nowhere = refuse-plain s 13
+located-plain s v (Some p) = (guided s v p).plain
+located-plain s v None = refuse-plain s 13
 
 module _ (s : State) (serial : ℕ) (fix : Fix) where
   abbrev Answers : Stepped → Type 0
@@ -81,7 +81,7 @@ module _ (s : State) (serial : ℕ) (fix : Fix) where
   unfolding moved_of
   moved-answers v p = (refl, (guided s v p).there)
 
-  accepted : valid_of s ≡ true → serial ≡ s.plan.head.serial → (p : Point) → position_of fix ≡ At p → Answers (step_of s serial fix)
+  accepted : valid_of s ≡ true → serial ≡ s.plan.head.serial → (p : Point) → position_of fix ≡ Some p → Answers (step_of s serial fix)
   accepted h e p at = subst Answers (sym (step-moved s serial fix h (eq-eqb serial s.plan.head.serial e) p at)) (moved-answers (valid-means s h) p)
 
   plain : PlainCommand (step_of s serial fix).answer.command

@@ -2,6 +2,7 @@
 use mathlib.Core.Path.{◌≡◌, refl}
 use mathlib.Core.Bool.{true, false}
 use lib.Ieee.{of_bits}
+use Rattle.std.specs.Prelude.{Some}
 use Rattle.conditions.specs.Choose.{choose}
 use Rattle.conditions.specs.Both.{both}
 use Rattle.integers.specs.Root.{next_root, root_by, root_of}
@@ -19,7 +20,6 @@ use Rattle.plane.specs.Area.{leg_of, level_of}
 use Rattle.plane.specs.Level.{plus, minus, level_leg_of, dot_of, square_of, vector_length, sideways_of}
 use Rattle.plane.specs.Half.{dot3_of, square3_of, half_plane, met_of, minor_size, cross_size, opposite_of}
 use Rattle.units.specs.declared.Fix.{Fix}
-use Rattle.units.specs.declared.Position.TheVariants.{At}
 use Rattle.units.specs.Decimetres.{decimetres_of, in_limit}
 use Rattle.units.specs.Position.{all_in_limit, position_of}
 use Rattle.fillets.specs.Corners.{lesser_turn, turn_between, corner_turn, tangent_of, right_of, rounded_of, corner_of}
@@ -39,7 +39,7 @@ use Rattle.manager.proofs.AnswerExamples.{each}
 use Rattle.manager.proofs.FinishLaws.{finishes}
 use Rattle.manager.proofs.FliesLaws.{flies}
 
-accepted : (s : State) (fix : Fix) (p : Point) → valid_of s ≡ true → 7 ≡ s.plan.head.serial → position_of fix ≡ At p → LastLegHolds (accepts s fix)
+accepted : (s : State) (fix : Fix) (p : Point) → valid_of s ≡ true → 7 ≡ s.plan.head.serial → position_of fix ≡ Some p → LastLegHolds (accepts s fix)
 accepted s fix p v e at =
     let f = flies s 7 fix in
     (f.accepted v e p at, (f.plain, (f.keeps, f.onward v)))

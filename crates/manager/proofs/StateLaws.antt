@@ -10,14 +10,15 @@ use Rattle.conditions.specs.Both.{both}
 use Rattle.conditions.proofs.Bools.{by_bool, both_first, both-second}
 use Rattle.fillets.specs.Corners.{corner_turn}
 use Rattle.dubins.specs.declared.Path.{Path}
-use Rattle.dubins.specs.declared.Found.TheVariants.{Shortest}
+use Rattle.std.proofs.Common.{Some}
 use Rattle.dubins.specs.Choice.{shortest_of, has_path_of}
 use Rattle.dubins.proofs.ShortestLaws.{found-when}
 use Rattle.plan.specs.declared.Mode.{Mode}
 use Rattle.plan.specs.declared.Mode.TheVariants.{Lines, Fillets, Dubins}
 use Rattle.plan.specs.Limits.{most_points, most_radius, most_turn}
 use Rattle.plan.specs.Places.{plan_point}
-use Rattle.plan.specs.Stands.{stands_of, ByMode, Placed, Aiming, Long}
+use Rattle.plan.specs.Stands.{stands_of, ByMode, Placed, Aiming}
+use Rattle.plan.specs.Long.{Long}
 use Rattle.plan.proofs.StandLaws.{stands-means, placed-of, aiming_of}
 use Rattle.manager.specs.declared.Progress.{Progress}
 use Rattle.manager.specs.declared.State.{State}
@@ -136,7 +137,7 @@ module _ (s : State) (v : Valid s) where
       let before : i - 1 - 1 ≡ i - 2 = omega arith in
       rw before at (h.1.1 (i - 1) (omega arith) (omega arith))
 
-  pub valid-path : s.plan.head.mode ≡ Dubins → (path : Path) × (shortest_of (ends_of s.plan s.progress.index) ≡ Shortest path)
+  pub valid-path : s.plan.head.mode ≡ Dubins → (path : Path) × (shortest_of (ends_of s.plan s.progress.index) ≡ Some path)
   valid-path e = found-when (ends_of s.plan s.progress.index) (has-path e)
 
   -- ---- what is read at the index, where all numbers are there

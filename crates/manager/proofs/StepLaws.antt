@@ -5,13 +5,12 @@ use Prim.Native.Nat.{ℕ, ◌+◌, ◌<◌}
 use native.Mathlib.Omega.{arith}
 use lib.Dec.{eqb, ltb}
 use borrow.Author.Tests.{ltb-true, ltb-false, le-leb, eq-eqb, ne_eqb}
+use Rattle.std.specs.Prelude.{Option, Some, None}
 use Rattle.conditions.specs.Choose.{choose}
 use Rattle.conditions.proofs.ChooseLaws.{choose-true, choose-false}
 use Rattle.conditions.proofs.Bools.{by_bool, clash, both-off, both-off-second, both_true}
 use Rattle.plane.specs.declared.Point.{Point}
 use Rattle.units.specs.declared.Fix.{Fix}
-use Rattle.units.specs.declared.Position.{Position}
-use Rattle.units.specs.declared.Position.TheVariants.{At, Nowhere}
 use Rattle.units.specs.Position.{position_of}
 use Rattle.plan.specs.declared.Mode.{Mode}
 use Rattle.manager.specs.declared.Progress.{Progress}
@@ -35,11 +34,11 @@ module _ (s : State) (serial : ℕ) (fix : Fix) where
   unfolding step_of choose
   step-located h k = rw (h, k)
 
-  pub step-13 : valid_of s ≡ true → eqb serial s.plan.head.serial ≡ true → position_of fix ≡ Nowhere → step_of s serial fix ≡ refuse_of s 13
+  pub step-13 : valid_of s ≡ true → eqb serial s.plan.head.serial ≡ true → position_of fix ≡ None → step_of s serial fix ≡ refuse_of s 13
   unfolding located_step
   step-13 h k e = step-located h k ∙ ap (located_step s) e
 
-  pub step-moved : valid_of s ≡ true → eqb serial s.plan.head.serial ≡ true → (p : Point) → position_of fix ≡ At p → step_of s serial fix ≡ moved_of s p
+  pub step-moved : valid_of s ≡ true → eqb serial s.plan.head.serial ≡ true → (p : Point) → position_of fix ≡ Some p → step_of s serial fix ≡ moved_of s p
   unfolding located_step
   step-moved h k p e = step-located h k ∙ ap (located_step s) e
 
@@ -55,10 +54,10 @@ refuse-goes : (s : State) (number : ℕ) → Goes s (refuse_of s number).state
 unfolding refuse_of
 refuse-goes s number = stays
 
-located-goes : (s : State) (position : Position) → Goes s (located_step s position).state
+located-goes : (s : State) (position : Option Point) → Goes s (located_step s position).state
 unfolding located_step moved_of
-located-goes s (At p) = moves (guide_here s p).passed
-located-goes s Nowhere = refuse-goes s 13
+located-goes s (Some p) = moves (guide_here s p).passed
+located-goes s None = refuse-goes s 13
 
 choose-goes : (s : State) (b : Bool) (x y : Stepped) → Goes s x.state → Goes s y.state → Goes s (choose b x y).state
 unfolding choose
@@ -71,10 +70,10 @@ step-goes s serial fix =
     choose-goes s (valid_of s) _ _ (choose-goes s (eqb serial s.plan.head.serial) _ _ (located-goes s (position_of fix)) (refuse-goes s 15)) (refuse-goes s 14)
 
 -- a refused fix returns its state
-located-refused : (s : State) (position : Position) → ((located_step s position).answer.refusal ≡ 0 → ⊥) → (located_step s position).state ≡ s
+located-refused : (s : State) (position : Option Point) → ((located_step s position).answer.refusal ≡ 0 → ⊥) → (located_step s position).state ≡ s
 unfolding located_step moved_of refuse_of
-located-refused s (At p) h = absurd (h refl)
-located-refused s Nowhere h = refl
+located-refused s (Some p) h = absurd (h refl)
+located-refused s None h = refl
 
 choose-refused : (s : State) (b : Bool) (x y : Stepped) → ((x.answer.refusal ≡ 0 → ⊥) → x.state ≡ s) → ((y.answer.refusal ≡ 0 → ⊥) → y.state ≡ s)
     → ((choose b x y).answer.refusal ≡ 0 → ⊥) → (choose b x y).state ≡ s

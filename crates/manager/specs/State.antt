@@ -4,7 +4,6 @@ use Rattle.conditions.specs.Choose.{choose}
 use Rattle.conditions.specs.Both.{both}
 use Rattle.plan.specs.declared.Mode.{Mode}
 use Rattle.plan.specs.declared.Mode.TheVariants.{Lines, Fillets, Dubins}
-use Rattle.plan.specs.declared.Head.{Head}
 use Rattle.plan.specs.declared.Plan.{Plan}
 use Rattle.plan.specs.Limits.{most_points}
 use Rattle.plan.specs.Places.{seen}
@@ -29,9 +28,9 @@ first_progress = record { index = 2; phase = 1; finished = false }
 abbrev pub start_of : Plan → State
 start_of p = record { plan = p; progress = first_progress }
 
--- the state of a head, a progress and lent numbers
-abbrev pub viewed : Head → Progress → List ℤ → List ℤ → List ℤ → List ℤ → State
-viewed h p norths easts downs courses = record { plan = seen h norths easts downs courses; progress = p }
+-- the state of a plan and how far it is flown
+abbrev pub state_of : Plan → Progress → State
+state_of plan p = record { plan = plan; progress = p }
 
 -- 13.1: the last index of n points, in every mode
 unfoldable pub last_index : ℕ → ℕ

@@ -2,28 +2,25 @@
 // fields, how far it is flown, and its numbers, which are lent: nothing is copied.
 #![tactic(auto)]
 
-ghost use Rattle.std.specs.Prelude.{◌≡◌, true, false, ℕ, ◌-◌, ◌≤◌, ◌<◌};
-ghost use Rattle.conditions.specs.Choose.{choose};
+ghost use Rattle.std.specs.Prelude.{◌≡◌, true, false, ℕ, ◌≤◌, ◌<◌};
 ghost use Rattle.refusals.specs.Numbers.{no_state};
 ghost use Rattle.plane.specs.Area.{InArea};
-ghost use Rattle.fillets.specs.Corners.{corner_turn};
 ghost use Rattle.dubins.specs.Limits.{IsEnds};
 ghost use Rattle.dubins.specs.Choice.{shortest_of};
-ghost use Rattle.guidance.specs.Guide.{line_guide, fillet_guide, last_leg_guide};
-ghost use Rattle.plan.specs.Limits.{most_points, most_radius, most_turn};
-ghost use Rattle.plan.specs.Places.{place_at, course_at, seen};
-ghost use Rattle.plan.specs.Stands.{stands_of, Placed, Aiming, Long};
-ghost use Rattle.manager.specs.State.{empty_state, first_progress, viewed, last_index, on_last_leg, last_phase, at_end, index_fits, phase_fits, end_fits, placed_of, valid_of, Valid};
-ghost use Rattle.manager.specs.Step.{path_guide, guide_here, next_of, stepped_by, refused_at, refuse_of, answered, moved_of, step_of};
+ghost use Rattle.plan.specs.Limits.{most_points};
+ghost use Rattle.plan.specs.Stands.{stands_of};
+ghost use Rattle.plan.specs.Lent.{lent_plan};
+ghost use Rattle.manager.specs.State.{empty_state, first_progress, state_of, last_index, on_last_leg, last_phase, at_end, index_fits, phase_fits, end_fits, placed_of, valid_of, Valid};
+ghost use Rattle.manager.specs.Step.{path_guide, guide_here, next_of, stepped_by, answering, refused_at, refuse_of, answered, moved_of, step_of};
 ghost use Rattle.manager.specs.Finish.{Finishes};
 ghost use Rattle.manager.specs.LastLeg.{LastLeg};
 ghost use Rattle.manager.specs.Flies.{Flies};
 
-use dubins::{Ends, Found};
+use dubins::Ends;
 use guidance::{Command, Guidance};
-use plan::{Head, Mode, Plan};
+use plan::{Head, Lent, Mode, Plan};
 use plane::Point;
-use units::{Fix, Position};
+use units::Fix;
 
 // How far a plan is flown: the index of the point that is flown to, from 1, the phase there, and whether the end was reached.
 #[derive(Clone, Copy)]
@@ -70,25 +67,25 @@ pub struct Stepped {
 pub fn empty() -> State
     ensures { (result ≡ empty_state) × ((valid_of result ≡ false) × ((serial : ℕ) (fix : Fix) → step_of result serial fix ≡ refuse_of result no_state)) }
 {
-    let head = Head {
-        serial: 0,
-        mode: Mode::Lines,
-        radius: 0,
-        count: 0,
-    };
-    let plan = Plan {
-        head,
-        norths: [0i32; plan::MOST_POINTS],
-        easts: [0i32; plan::MOST_POINTS],
-        downs: [0i32; plan::MOST_POINTS],
-        courses: [0i32; plan::MOST_POINTS],
-    };
-    let progress = Progress {
-        index: 0,
-        phase: 0,
-        finished: false,
-    };
-    State { plan, progress }
+    State {
+        plan: Plan {
+            head: Head {
+                serial: 0,
+                mode: Mode::Lines,
+                radius: 0,
+                count: 0,
+            },
+            norths: [0; plan::MOST_POINTS],
+            easts: [0; plan::MOST_POINTS],
+            downs: [0; plan::MOST_POINTS],
+            courses: [0; plan::MOST_POINTS],
+        },
+        progress: Progress {
+            index: 0,
+            phase: 0,
+            finished: false,
+        },
+    }
 }
 
 // How far a plan is flown at its start.
@@ -117,77 +114,61 @@ fn on_last_leg(count: usize, index: usize) -> bool
 }
 
 // The last phase at an index. There is no corner to round at the end of the last leg.
-fn last_phase(mode: Mode, count: usize, index: usize) -> u8
-    ensures { result ≡ last_phase mode count index }
+fn last_phase(head: Head, index: usize) -> u8
+    ensures { result ≡ last_phase head.mode head.count index }
 {
-    match mode {
+    match head.mode {
         Mode::Lines => 1,
-        Mode::Fillets => if on_last_leg(count, index) { 1 } else { 2 },
+        Mode::Fillets => if on_last_leg(head.count, index) { 1 } else { 2 },
         Mode::Dubins => 5,
     }
 }
 
 // Whether a flight is at the last index and phase.
-fn at_end(mode: Mode, count: usize, p: Progress) -> bool
-    ensures { result ≡ at_end mode count p }
+#[tactic(auto, unfolding(crate::specs::State::at_end, conditions::specs::Both::both))]
+fn at_end(head: Head, p: Progress) -> bool
+    ensures { result ≡ at_end head.mode head.count p }
 {
-    conditions::both(
-        on_last_leg(count, p.index),
-        p.phase == last_phase(mode, count, p.index),
-    )
+    on_last_leg(head.count, p.index) && p.phase == last_phase(head, p.index)
 }
 
 // Whether the index is one that a plan has.
-fn index_fits(count: usize, p: Progress) -> bool
-    ensures { result ≡ index_fits count p }
+#[tactic(auto, unfolding(crate::specs::State::index_fits, conditions::specs::Both::both))]
+fn index_fits(head: Head, p: Progress) -> bool
+    ensures { result ≡ index_fits head.count p }
 {
-    conditions::both(2 <= p.index, p.index <= last_index(count))
+    2 <= p.index && p.index <= last_index(head.count)
 }
 
 // Whether the phase is one that the mode allows at the index.
-fn phase_fits(mode: Mode, count: usize, p: Progress) -> bool
-    ensures { result ≡ phase_fits mode count p }
+#[tactic(auto, unfolding(crate::specs::State::phase_fits, conditions::specs::Both::both))]
+fn phase_fits(head: Head, p: Progress) -> bool
+    ensures { result ≡ phase_fits head.mode head.count p }
 {
-    conditions::both(1 <= p.phase, p.phase <= last_phase(mode, count, p.index))
+    1 <= p.phase && p.phase <= last_phase(head, p.index)
 }
 
 // Whether a flight that is finished is at the last index and phase.
-fn end_fits(mode: Mode, count: usize, p: Progress) -> bool
-    ensures { result ≡ end_fits mode count p }
+#[tactic(auto, unfolding(crate::specs::State::end_fits, conditions::specs::Choose::choose))]
+fn end_fits(head: Head, p: Progress) -> bool
+    ensures { result ≡ end_fits head.mode head.count p }
 {
-    if p.finished {
-        return at_end(mode, count, p);
-    }
-    true
+    !p.finished || at_end(head, p)
 }
 
 // Whether index, phase and finished are such as the mode allows.
-fn placed(mode: Mode, count: usize, p: Progress) -> bool
-    ensures { result ≡ placed_of mode count p }
+#[tactic(auto, unfolding(crate::specs::State::placed_of, conditions::specs::Both::both))]
+fn placed(head: Head, p: Progress) -> bool
+    ensures { result ≡ placed_of head.mode head.count p }
 {
-    conditions::both(
-        index_fits(count, p),
-        conditions::both(phase_fits(mode, count, p), end_fits(mode, count, p)),
-    )
+    index_fits(head, p) && phase_fits(head, p) && end_fits(head, p)
 }
 
-// Whether a state is not refused 14.
-pub fn valid<'a>(
-    head: Head,
-    progress: Progress,
-    norths: &'a [i32],
-    easts: &'a [i32],
-    downs: &'a [i32],
-    courses: &'a [i32],
-) -> bool
-    requires { Long norths.now easts.now downs.now courses.now }
-    ensures { (result ≡ valid_of (viewed head progress norths.now easts.now downs.now courses.now)) × (result ≡ true → Valid (viewed head progress norths.now easts.now downs.now courses.now)) }
+// Whether a state, its plan lent, is not refused 14.
+pub fn valid(plan: &Lent, progress: Progress) -> bool
+    ensures { (result ≡ valid_of (state_of (lent_plan plan.now) progress)) × (result ≡ true → Valid (state_of (lent_plan plan.now) progress)) }
 {
-    if plan::stands(head, norths, easts, downs, courses) {
-        let mode = head.mode;
-        return placed(mode, head.count, progress);
-    }
-    false
+    plan.stands() && placed(plan.head, progress)
 }
 
 // The guidance on a Dubins leg. The path is worked out afresh.
@@ -196,8 +177,8 @@ fn path_guide(ends: Ends, phase: u8, at: Point) -> Guidance
     ensures { (result ≡ path_guide ends phase at (shortest_of ends)) × (result.heading < 4096) }
 {
     match dubins::shortest_path(ends) {
-        Found::Shortest(path) => guidance::dubins_guide(ends, path, phase, at),
-        Found::Missing => Guidance {
+        Some(path) => guidance::dubins_guide(ends, path, phase, at),
+        None => Guidance {
             command: Command::Nothing,
             heading: 0,
             passed: false,
@@ -205,129 +186,81 @@ fn path_guide(ends: Ends, phase: u8, at: Point) -> Guidance
     }
 }
 
-// The guidance of lines on the leg from a to b. Unless it is the last one a point comes behind it, at place i.
-fn line_guide_at<'a>(
-    last: bool,
-    a: Point,
-    b: Point,
-    i: usize,
-    at: Point,
-    norths: &'a [i32],
-    easts: &'a [i32],
-    downs: &'a [i32],
-) -> Guidance
-    requires { (InArea a × InArea b) × ((last ≡ false → Placed norths.now easts.now downs.now i) × InArea at) }
-    ensures { (result ≡ choose last (last_leg_guide false a b at) (line_guide a b (place_at norths.now easts.now downs.now i) at)) × (result.heading < 4096) }
+// The guidance at an index and phase. Point i lies at place i - 1. Unless the leg is the last one a point comes behind it.
+fn guide(plan: &Lent, progress: Progress, at: Point) -> Guidance
+    requires { Valid (state_of (lent_plan plan.now) progress) × InArea at }
+    ensures { (result ≡ guide_here (state_of (lent_plan plan.now) progress) at) × (result.heading < 4096) }
 {
-    if last {
-        return guidance::last_leg_guide(guidance::IN_SPACE, a, b, at);
-    }
-    let c = plan::point_at(norths, easts, downs, i);
-    guidance::line_guide(a, b, c, at)
-}
-
-// The same of fillets.
-fn fillet_guide_at<'a>(
-    last: bool,
-    a: Point,
-    b: Point,
-    i: usize,
-    radius: u16,
-    phase: u8,
-    at: Point,
-    norths: &'a [i32],
-    easts: &'a [i32],
-    downs: &'a [i32],
-) -> Guidance
-    requires { (InArea a × InArea b) × ((last ≡ false → Placed norths.now easts.now downs.now i × ((radius ≤ most_radius) × (corner_turn a b (place_at norths.now easts.now downs.now i) ≤ most_turn))) × InArea at) }
-    ensures { (result ≡ choose last (last_leg_guide true a b at) (fillet_guide a b (place_at norths.now easts.now downs.now i) radius phase at)) × (result.heading < 4096) }
-{
-    if last {
-        return guidance::last_leg_guide(guidance::LEVEL, a, b, at);
-    }
-    let c = plan::point_at(norths, easts, downs, i);
-    guidance::fillet_guide(a, b, c, radius as u64, phase, at)
-}
-
-// The leg from a to b of a Dubins plan. Its courses lie at the places i - 2 and i - 1.
-fn ends_at(a: Point, b: Point, i: usize, radius: u16, courses: &[i32]) -> Ends
-    requires { (InArea a × InArea b) × ((2 ≤ i) × ((Aiming courses.now (i - 2) × Aiming courses.now (i - 1)) × (radius ≤ most_radius))) }
-    ensures { (result ≡ record { start = a; leave = course_at courses.now (i - 2); end = b; arrive = course_at courses.now (i - 1); radius = radius }) × IsEnds result }
-{
-    let leave = plan::course_at(courses, i - 2);
-    let arrive = plan::course_at(courses, i - 1);
-    Ends {
-        start: a,
-        leave,
-        end: b,
-        arrive,
-        radius: radius as u64,
-    }
-}
-
-// The guidance at an index and phase. Point i lies at place i - 1.
-fn guide<'a>(
-    head: Head,
-    progress: Progress,
-    at: Point,
-    norths: &'a [i32],
-    easts: &'a [i32],
-    downs: &'a [i32],
-    courses: &'a [i32],
-) -> Guidance
-    requires { Long norths.now easts.now downs.now courses.now × (Valid (viewed head progress norths.now easts.now downs.now courses.now) × InArea at) }
-    ensures { (result ≡ guide_here (viewed head progress norths.now easts.now downs.now courses.now) at) × (result.heading < 4096) }
-{
-    let mode = head.mode;
     let i = progress.index;
-    let last = on_last_leg(head.count, i);
-    let a = plan::point_at(norths, easts, downs, i - 2);
-    let b = plan::point_at(norths, easts, downs, i - 1);
-    let radius = head.radius;
-    let phase = progress.phase;
-    match mode {
-        Mode::Lines => line_guide_at(last, a, b, i, at, norths, easts, downs),
-        Mode::Fillets => fillet_guide_at(last, a, b, i, radius, phase, at, norths, easts, downs),
-        Mode::Dubins => path_guide(ends_at(a, b, i, radius, courses), phase, at),
+    let last = on_last_leg(plan.head.count, i);
+    let a = plan.point_at(i - 2);
+    let b = plan.point_at(i - 1);
+    match plan.head.mode {
+        Mode::Lines => {
+            if last {
+                return guidance::last_leg_guide(guidance::IN_SPACE, a, b, at);
+            }
+            guidance::line_guide(a, b, plan.point_at(i), at)
+        }
+        Mode::Fillets => {
+            if last {
+                return guidance::last_leg_guide(guidance::LEVEL, a, b, at);
+            }
+            let radius = u64::from(plan.head.radius);
+            guidance::fillet_guide(a, b, plan.point_at(i), radius, progress.phase, at)
+        }
+        Mode::Dubins => path_guide(plan.leg_ends(i - 1), progress.phase, at),
     }
 }
 
 // How far the plan is flown after a fix that ended its phase, or did not.
-fn next(mode: Mode, count: usize, p: Progress, passed: bool) -> Progress
+#[tactic(auto, unfolding(crate::specs::Step::next_of, conditions::specs::Choose::choose))]
+fn next(head: Head, p: Progress, passed: bool) -> Progress
     requires { p.index ≤ most_points }
-    ensures { result ≡ next_of mode count p passed }
+    ensures { result ≡ next_of head.mode head.count p passed }
 {
-    let mut t = p;
-    if passed {
-        if p.phase < last_phase(mode, count, p.index) {
-            t.phase = p.phase + 1;
-            return t;
+    if !passed {
+        p
+    } else if p.phase < last_phase(head, p.index) {
+        Progress {
+            phase: p.phase + 1,
+            ..p
         }
-        if on_last_leg(count, p.index) {
-            t.finished = true;
-            return t;
+    } else if on_last_leg(head.count, p.index) {
+        Progress {
+            finished: true,
+            ..p
         }
-        t.index = p.index + 1;
-        t.phase = 1;
-        return t;
+    } else {
+        Progress {
+            index: p.index + 1,
+            phase: 1,
+            ..p
+        }
     }
-    t
+}
+
+// What is decided of a fix: a number, a command and a heading, and how far the plan is flown after it.
+fn answering(number: u8, command: Command, heading: u16, progress: Progress) -> Decided
+    ensures { result ≡ answering number command heading progress }
+{
+    let answer = Answer {
+        refusal: number,
+        place: 0,
+        command,
+        heading,
+        index: progress.index,
+        phase: progress.phase,
+        finished: progress.finished,
+    };
+    Decided { answer, progress }
 }
 
 // A refusal: no command, heading 0, as far as before.
 fn refuse(progress: Progress, number: u8) -> Decided
     ensures { result ≡ refused_at progress number }
 {
-    let answer = Answer {
-        refusal: number,
-        place: 0,
-        command: Command::Nothing,
-        heading: 0,
-        index: progress.index,
-        phase: progress.phase,
-        finished: progress.finished,
-    };
-    Decided { answer, progress }
+    answering(number, Command::Nothing, 0, progress)
 }
 
 // The answer by a guidance, and how far the plan is flown after it.
@@ -335,61 +268,32 @@ fn accept(g: Guidance, progress: Progress) -> Decided
     requires { g.heading < 4096 }
     ensures { result ≡ answered g progress }
 {
-    let command = g.command;
-    let answer = Answer {
-        refusal: 0,
-        place: 0,
-        command,
-        heading: g.heading as u16,
-        index: progress.index,
-        phase: progress.phase,
-        finished: progress.finished,
-    };
-    Decided { answer, progress }
+    answering(0, g.command, g.heading as u16, progress)
 }
 
 // A fix that no number refuses, at its position.
-fn moved<'a>(
-    head: Head,
-    progress: Progress,
-    at: Point,
-    norths: &'a [i32],
-    easts: &'a [i32],
-    downs: &'a [i32],
-    courses: &'a [i32],
-) -> Decided
-    requires { Long norths.now easts.now downs.now courses.now × (Valid (viewed head progress norths.now easts.now downs.now courses.now) × InArea at) }
-    ensures { stepped_by (seen head norths.now easts.now downs.now courses.now) result ≡ moved_of (viewed head progress norths.now easts.now downs.now courses.now) at }
+fn moved(plan: &Lent, progress: Progress, at: Point) -> Decided
+    requires { Valid (state_of (lent_plan plan.now) progress) × InArea at }
+    ensures { stepped_by (lent_plan plan.now) result ≡ moved_of (state_of (lent_plan plan.now) progress) at }
 {
-    let g = guide(head, progress, at, norths, easts, downs, courses);
-    let mode = head.mode;
-    accept(g, next(mode, head.count, progress, g.passed))
+    let g = guide(plan, progress, at);
+    accept(g, next(plan.head, progress, g.passed))
 }
 
 // One fix: the command of the index and phase before it, and how far the plan is flown after it.
-pub fn decide<'a>(
-    head: Head,
-    progress: Progress,
-    serial: u32,
-    fix: Fix,
-    norths: &'a [i32],
-    easts: &'a [i32],
-    downs: &'a [i32],
-    courses: &'a [i32],
-) -> Decided
-    requires { Long norths.now easts.now downs.now courses.now }
-    ensures { stepped_by (seen head norths.now easts.now downs.now courses.now) result ≡ step_of (viewed head progress norths.now easts.now downs.now courses.now) serial fix }
+pub fn decide(plan: &Lent, progress: Progress, serial: u32, fix: Fix) -> Decided
+    ensures { stepped_by (lent_plan plan.now) result ≡ step_of (state_of (lent_plan plan.now) progress) serial fix }
 {
-    if valid(head, progress, norths, easts, downs, courses) {
-        if serial == head.serial {
-            return match units::locate(fix) {
-                Position::At(at) => moved(head, progress, at, norths, easts, downs, courses),
-                Position::Nowhere => refuse(progress, refusals::NO_POSITION),
-            };
-        }
+    if !valid(plan, progress) {
+        return refuse(progress, refusals::NO_STATE);
+    }
+    if serial != plan.head.serial {
         return refuse(progress, refusals::OTHER_SERIAL);
     }
-    refuse(progress, refusals::NO_STATE)
+    match units::locate(fix) {
+        Some(at) => moved(plan, progress, at),
+        None => refuse(progress, refusals::NO_POSITION),
+    }
 }
 
 impl State {
@@ -397,22 +301,13 @@ impl State {
     pub fn step(self, serial: u32, fix: Fix) -> Stepped
         ensures { (result ≡ step_of self serial fix) × (Finishes self fix result × (Flies self serial fix result × LastLeg)) }
     {
-        let plan = self.plan;
-        let head = self.plan.head;
-        let before = self.progress;
-        let decided = decide(
-            head,
-            before,
-            serial,
-            fix,
-            &self.plan.norths,
-            &self.plan.easts,
-            &self.plan.downs,
-            &self.plan.courses,
-        );
-        let progress = decided.progress;
-        let state = State { plan, progress };
-        let answer = decided.answer;
-        Stepped { answer, state }
+        let decided = decide(&self.plan.lent(), self.progress, serial, fix);
+        Stepped {
+            answer: decided.answer,
+            state: State {
+                progress: decided.progress,
+                ..self
+            },
+        }
     }
 }

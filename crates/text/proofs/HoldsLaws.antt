@@ -28,6 +28,9 @@ pub float-holds : FloatHolds
 unfolding float_text hex_of hex_digit choose of_bits to_bits
 float-holds = record { plain = refl; not-one = refl }
 
+pub hex_and_floats : HexHolds × FloatHolds
+hex_and_floats = (hex-holds, float-holds)
+
 pub refusal-holds : RefusalHolds
 unfolding refusal_text count_text decimal_of digits_in choose
 refusal-holds = record { line = refl }

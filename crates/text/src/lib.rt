@@ -10,20 +10,12 @@ ghost use Rattle.text.specs.Parts.{count_text, number_text, bytes_text, float_te
 ghost use Rattle.text.specs.Written.{Wrote};
 ghost use Rattle.text.specs.Holds.{DecimalHolds, SignedHolds, HexHolds, BytesHold, FloatHolds, RefusalHolds};
 
-// How many values the bits of an f32 have below its sign, and below its exponent.
-const BELOW_SIGN: u32 = 2147483648;
-
-const BELOW_EXPONENT: u32 = 8388608;
-
-// The exponent field of infinities and NaNs.
-const NOT_FINITE: u32 = 255;
-
-// The pattern that is written for a NaN.
-const A_NAN: u32 = 0x7FC00000;
+use std::num::{f32_from_bits_with_nan, f32_to_bits_with_nan};
 
 // The hexadecimal digits of an f32.
 const FLOAT_DIGITS: usize = 8;
 
+#[tactic(auto, using(crate::proofs::WrittenLaws::one))]
 pub fn put_byte(byte: u8, at: usize, buffer: &mut [u8]) -> usize
     requires { at < length buffer.old }
     ensures { Wrote at (byte ∷ []) buffer.old buffer.new result }
@@ -32,11 +24,12 @@ pub fn put_byte(byte: u8, at: usize, buffer: &mut [u8]) -> usize
     at + 1
 }
 
+#[tactic(auto, using(crate::proofs::WrittenLaws::copied, buffers::proofs::SpliceLaws::lent))]
 pub fn put_text(text: &[u8], at: usize, buffer: &mut [u8]) -> usize
     requires { at + length text.now ≤ length buffer.old }
     ensures { Wrote at text.now buffer.old buffer.new result }
 {
-    buffers::put_bytes(text, &mut buffer[at..]);
+    buffers::put(text, &mut buffer[at..]);
     at + text.len()
 }
 
@@ -46,10 +39,10 @@ pub fn put_decimal(n: u64, at: usize, buffer: &mut [u8]) -> usize
     ensures { Wrote at (decimal_of n) buffer.old buffer.new result × (result ≤ at + 20) }
 {
     if n < 10 {
-        return put_byte(48 + n as u8, at, buffer);
+        return put_byte(b'0' + n as u8, at, buffer);
     }
     let end = put_decimal(n / 10, at, buffer);
-    put_byte(48 + (n % 10) as u8, end, buffer)
+    put_byte(b'0' + (n % 10) as u8, end, buffer)
 }
 
 // A minus sign before a negative number.
@@ -66,14 +59,15 @@ pub fn put_signed(x: i64, at: usize, buffer: &mut [u8]) -> usize
     put_decimal(size, at, buffer)
 }
 
+#[tactic(auto, unfolding(crate::specs::Digits::hex_digit, conditions::specs::Choose::choose))]
 fn hex_digit(d: u32) -> u8
     requires { d < 16 }
     ensures { result ≡ hex_digit d }
 {
     if d < 10 {
-        return 48 + d as u8;
+        return b'0' + d as u8;
     }
-    87 + d as u8
+    b'a' - 10 + d as u8
 }
 
 // The last hexadecimal digits of a number, so many.
@@ -93,7 +87,7 @@ fn put_pair(byte: u8, at: usize, buffer: &mut [u8]) -> usize
     requires { at + 2 ≤ length buffer.old }
     ensures { Wrote at (hex_of 2 byte) buffer.old buffer.new result × (result ≡ at + 2) }
 {
-    put_hex(byte as u32, 2, at, buffer)
+    put_hex(u32::from(byte), 2, at, buffer)
 }
 
 // Bytes in hexadecimal.
@@ -103,24 +97,20 @@ pub fn put_bytes(bytes: &[u8], from: usize, buffer: &mut [u8]) -> usize
     ensures bytes_hold { BytesHold }
 {
     let mut at = from;
-    let mut i: usize = 0;
-    while i < bytes.len() {
-        at = put_pair(bytes[i], at, buffer);
-        i += 1;
+    for byte in bytes {
+        at = put_pair(*byte, at, buffer);
     }
     at
 }
 
-// The bits of a float; to_bits leaves a NaN out.
+// The bits of a float; every NaN has the one pattern.
+#[tactic(auto, using(crate::proofs::HoldsLaws::hex_and_floats), unfolding(crate::specs::Parts::float_text))]
 pub fn put_float(x: f32, at: usize, buffer: &mut [u8]) -> usize
     requires { at + 8 ≤ length buffer.old }
     ensures wrote { Wrote at (float_text x) buffer.old buffer.new result × (result ≡ at + 8) }
     ensures hex_holds { HexHolds × FloatHolds }
 {
-    if x == x {
-        return put_hex(f32::to_bits(x), FLOAT_DIGITS, at, buffer);
-    }
-    put_hex(A_NAN, FLOAT_DIGITS, at, buffer)
+    put_hex(f32_to_bits_with_nan(x), FLOAT_DIGITS, at, buffer)
 }
 
 // A number behind a word.
@@ -152,15 +142,9 @@ pub fn put_refusal(number: u64, place: u64, at: usize, buffer: &mut [u8]) -> usi
     put_count(b" at ", place, end, buffer)
 }
 
-// The float of a pattern. from_bits leaves a NaN's out; all of these are the one NaN.
+// The float of a pattern; those of a NaN are all the one NaN.
 pub fn float(bits: u32) -> f32
     ensures { result ≡ of_bits binary32 bits }
 {
-    if bits % BELOW_SIGN / BELOW_EXPONENT < NOT_FINITE {
-        return f32::from_bits(bits);
-    }
-    if bits % BELOW_EXPONENT == 0 {
-        return f32::from_bits(bits);
-    }
-    0.0 / 0.0
+    f32_from_bits_with_nan(bits)
 }

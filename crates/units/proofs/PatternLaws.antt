@@ -6,9 +6,10 @@ use native.Mathlib.Nat.{mul-one, one-mul, mul-le-mul_right, div-eq_of_lt, lt_of_
 use native.Mathlib.Omega.{arith}
 use lib.Dec.{T, leb, eqb, lit≤, lit<}
 use lib.Pow.{pow_pos, pow_mono, pow-add, shl_exact}
-use lib.Ieee.{Float, nan, inf, binary32, odd, fits, of_fields, of_bits, to_bits}
+use lib.Ieee.{Float, nan, inf, fin, binary32, odd, fits, of_fields, of_bits, to_bits}
 use lib.Ieee.Bits.{of_bits-to_bits}
 use lib.Ieee.Exact.{HasValue, odd_sign}
+use Rattle.std.specs.Float.{is_sign_negative}
 use Rattle.units.specs.Decimetres.{nearest_quotient, signed, decimetres_of, in_limit}
 use Rattle.units.specs.Pattern.{field_of, digits_of, units_of, unsigned_decimetres}
 use Rattle.units.proofs.LimitLaws.{limit-value}
@@ -45,6 +46,12 @@ unfolding units_of
 field-le zero t h = lit≤ tt
 field-le (suc j) t h = lt_of_not-le (λ (g : 142 ≤ j). beyond (2 ^ j) (2 ^ 142) (2 ^ 149) t (pow_mono g) (pow_pos 142) refl h)
 
+sign_is : (x : Float) (s : Bool) (A C : ℕ) → HasValue x s A C → is_sign_negative x ≡ s
+unfolding is_sign_negative
+sign_is nan s A C v = elim v [ ]
+sign_is (inf _) s A C v = elim v [ ]
+sign_is (fin t m e) s A C v = v.0
+
 -- ---- of an f32 in the limit
 module _ (x : Float) (held : T (fits binary32 x)) (h : T (in_limit 50000 x)) where
   abbrev bits : ℕ
@@ -60,9 +67,13 @@ module _ (x : Float) (held : T (fits binary32 x)) (h : T (in_limit 50000 x)) whe
   field-most =
       field-le (field_of bits) (digits_of bits) (limit-value 50000 x (leb 2147483648 bits) (units_of (field_of bits) (digits_of bits)) (2 ^ 149) h bits-value)
 
-  pub bits-decimetres : decimetres_of x ≡ signed (leb 2147483648 bits) (unsigned_decimetres bits)
+  pub bits-decimetres : decimetres_of x ≡ signed (is_sign_negative x) (unsigned_decimetres bits)
   unfolding unsigned_decimetres
-  bits-decimetres = decimetres-value x (leb 2147483648 bits) (units_of (field_of bits) (digits_of bits)) (2 ^ 149) (pow_pos 149) bits-value
+  bits-decimetres =
+      let minus = leb 2147483648 bits in
+      let u = units_of (field_of bits) (digits_of bits) in
+      decimetres-value x (is_sign_negative x) u (2 ^ 149) (pow_pos 149)
+      (subst (λ (s : Bool). HasValue x s u (2 ^ 149)) (sym (sign_is x minus u (2 ^ 149) bits-value)) bits-value)
 
 -- ---- below field 122 the size is under half a decimetre
 less : (u P C t : ℕ) → u ≤ P → 0 < P → C ≡ P * 536870912 → t < 8388608 → (8388608 + t) * u * 10 * 2 < C

@@ -1,11 +1,9 @@
 -- Clauses 7.13, 9.1, 18.3: the position of a fix, or none. Assumes nothing.
-use Rattle.std.specs.Prelude.{Bool, ◌&&◌}
+use Rattle.std.specs.Prelude.{Bool, ◌&&◌, Option, Some, None}
 use Rattle.conditions.specs.Choose.{choose}
 use Rattle.plane.specs.declared.Point.{Point}
 use Rattle.plane.specs.Area.{InArea}
 use Rattle.units.specs.declared.Fix.{Fix}
-use Rattle.units.specs.declared.Position.{Position}
-use Rattle.units.specs.declared.Position.TheVariants.{At, Nowhere}
 use Rattle.units.specs.Decimetres.{decimetres_of, in_limit}
 
 abbrev pub in_decimetres : Fix → Point
@@ -14,10 +12,10 @@ in_decimetres f = record { north = decimetres_of f.north; east = decimetres_of f
 unfoldable pub all_in_limit : Fix → Bool
 all_in_limit f = in_limit 50000 f.north && (in_limit 50000 f.east && in_limit 10000 f.down)
 
-unfoldable pub position_of : Fix → Position
-position_of f = choose (all_in_limit f) (At (in_decimetres f)) Nowhere
+unfoldable pub position_of : Fix → Option Point
+position_of f = choose (all_in_limit f) (Some (in_decimetres f)) None
 
 -- where there is a point, it lies in the area
-abbrev pub IsPosition : Position → Type 0
-IsPosition (At p) = InArea p
-IsPosition Nowhere = Unit {0}
+abbrev pub IsPosition : Option Point → Type 0
+IsPosition (Some p) = InArea p
+IsPosition None = Unit {0}

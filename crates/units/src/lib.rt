@@ -8,9 +8,11 @@ ghost use Rattle.std.specs.Float.Ieee.{round};
 ghost use Rattle.integers.specs.Bounds.{Within};
 ghost use Rattle.units.specs.Decimetres.{decimetres_of, in_limit};
 ghost use Rattle.units.specs.Pattern.{field_of, unsigned_decimetres};
-ghost use Rattle.units.specs.Position.{all_in_limit, position_of, IsPosition};
+ghost use Rattle.units.specs.Position.{all_in_limit, in_decimetres, position_of, IsPosition};
 ghost use Rattle.units.specs.CheckedExamples.{FixExamples};
 ghost use Rattle.units.specs.Metres.{metres_of, direction_part_of, Exactly, Plain, PlainMeans};
+
+use plane::Point;
 
 // A position fix, in metres.
 #[derive(Clone, Copy)]
@@ -18,13 +20,6 @@ pub struct Fix {
     pub north: f32,
     pub east: f32,
     pub down: f32,
-}
-
-// Where a fix is, in decimetres, or that it is refused.
-#[derive(Clone, Copy)]
-pub enum Position {
-    At(plane::Point),
-    Nowhere,
 }
 
 // Whether x is a number of at most limit in size. A NaN fails both tests.
@@ -36,10 +31,11 @@ fn in_limit(x: f32, limit: u16) -> bool
 }
 
 // Whether each part of a fix is in its limit.
+#[tactic(auto, unfolding(crate::specs::Position::all_in_limit))]
 fn all_in_limit(fix: Fix) -> bool
     ensures { result ≡ all_in_limit fix }
 {
-    in_limit(fix.north, 50000) && (in_limit(fix.east, 50000) && in_limit(fix.down, 10000))
+    in_limit(fix.north, 50000) && in_limit(fix.east, 50000) && in_limit(fix.down, 10000)
 }
 
 // The size of a float in decimetres, from its bits: digits · 2^(field − 150) metres. Below field 120 it is under half a decimetre.
@@ -61,23 +57,27 @@ fn decimetres(x: f32) -> i32
     requires { T (in_limit 50000 x) }
     ensures { result ≡ decimetres_of x }
 {
-    let bits: u32 = f32::to_bits(x);
-    let size = unsigned_decimetres(bits) as i32;
-    if 2147483648 <= bits { -size } else { size }
+    let size = unsigned_decimetres(x.to_bits()) as i32;
+    if x.is_sign_negative() { -size } else { size }
+}
+
+// The point of a fix whose parts are in their limits.
+fn in_decimetres(fix: Fix) -> Point
+    requires { T (all_in_limit fix) }
+    ensures { result ≡ in_decimetres fix }
+{
+    Point {
+        north: decimetres(fix.north),
+        east: decimetres(fix.east),
+        down: decimetres(fix.down),
+    }
 }
 
 // The position of a fix; there is none where a part is NaN, infinite or beyond its limit.
-pub fn locate(fix: Fix) -> Position
+pub fn locate(fix: Fix) -> Option<Point>
     ensures { (result ≡ position_of fix) × (IsPosition result × FixExamples) }
 {
-    if all_in_limit(fix) {
-        return Position::At(plane::Point {
-            north: decimetres(fix.north),
-            east: decimetres(fix.east),
-            down: decimetres(fix.down),
-        });
-    }
-    Position::Nowhere
+    all_in_limit(fix).then(|| in_decimetres(fix))
 }
 
 // d decimetres in metres.

@@ -224,7 +224,7 @@ fn block_of(numbers: &[i32], from: usize) -> [i32; plan::MOST_POINTS]
 {
     let mut block = [0i32; plan::MOST_POINTS];
     let to = from + plan::MOST_POINTS;
-    buffers::put_numbers(&numbers[from..to], &mut block);
+    buffers::put(&numbers[from..to], &mut block);
     block
 }
 

@@ -23,12 +23,12 @@ returns-then-not-fits c =
 pub distance_at-found-requires : goal.distance_at-found-requires
 distance_at-found-requires c = (long c).0
 
-pub put_words-requires : goal.put_words-requires
-put_words-requires c = (long (goal.at.put_words-requires c).Else-not-fits).1
+pub put-requires : goal.put-requires
+put-requires c = (long (goal.at.put-requires c).Else-not-fits).1
 
 pub returns : goal.returns
 returns c =
     let m = c.distance_at-found.result in
     let l = distance-fit _ _ _ (sym c.fits.ensures ∙ c.if-not-fits.false) m _ c.distance_at-found.ensures
-    (c.put_words.ensures ∙ ap (λ (n : ℕ). over (m.refusal ∷ n ∷ m.left ∷ []) c.args.answer.now) c.word.ensures) in
+    (c.put.ensures.part_after ∙ ap (λ (n : ℕ). over (m.refusal ∷ n ∷ m.left ∷ []) c.args.answer.now) c.word.ensures) in
     record { value = l.0; answer_after = l.1 }

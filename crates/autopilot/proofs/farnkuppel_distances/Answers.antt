@@ -24,12 +24,12 @@ returns-then-not-fits c =
 pub distances_at-found-requires : goal.distances_at-found-requires
 distances_at-found-requires c = (long (goal.at.distances_at-found-requires c).Else-not-fits).0
 
-pub put_words-requires : goal.put_words-requires
-put_words-requires c = (long (goal.at.put_words-requires c).Else-not-fits).1
+pub put-requires : goal.put-requires
+put-requires c = (long (goal.at.put-requires c).Else-not-fits).1
 
 pub returns : goal.returns
 returns c =
     let r = c.distances_at-found.result in
     let l = table-fit _ _ _ _ (sym c.fits.ensures ∙ c.if-not-fits.false) r _ _ c.distances_at-found.ensures.value c.distances_at-found.ensures.table_after
-    (c.put_words.ensures ∙ ap (λ (n : ℕ). over (r.number ∷ n ∷ []) c.args.answer.now) c.word.ensures) in
+    (c.put.ensures.part_after ∙ ap (λ (n : ℕ). over (r.number ∷ n ∷ []) c.args.answer.now) c.word.ensures) in
     record { value = l.result; table_after = l.written; answer_after = l.answered; untouched = l.kept; tables_stay = (tables-stay, distance-example) }

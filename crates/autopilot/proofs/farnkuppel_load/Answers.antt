@@ -35,14 +35,14 @@ load_into-entered-requires c = all-lent c.args.state.now (long (goal.at.load_int
 pub put_head-requires : goal.put_head-requires
 put_head-requires c = let p = long (goal.at.put_head-requires c).Else-not-fits in search rules
 
-pub put_words-requires : goal.put_words-requires
-put_words-requires c = (long (goal.at.put_words-requires c).Else-not-fits).1
+pub put-requires : goal.put-requires
+put-requires c = (long (goal.at.put-requires c).Else-not-fits).1
 
 pub returns : goal.returns
 returns c =
     let l = load-fit _ _ c.args.state.now c.args.answer.now (sym c.fits.ensures ∙ c.if-not-fits.false) _ _ _ (loaded-filled _ _ _ refl) (omega (arith, (long (goal.at.returns c).Else-not-fits).0))
     c.load_into-entered.ensures.value c.load_into-entered.ensures.numbers_after c.put_head.ensures.words_after
-    (c.put_words.ensures ∙ ap (λ (n : ℕ). over (c.load_into-entered.result.refusal ∷ n ∷ []) c.args.answer.now) c.word.ensures) in
+    (c.put.ensures.part_after ∙ ap (λ (n : ℕ). over (c.load_into-entered.result.refusal ∷ n ∷ []) c.args.answer.now) c.word.ensures) in
     let word : c.load_into-entered.result.head.serial < 4294967296 = c.struct_known-1.given.1.1.0.0.fits in
     let held = load-holds _ _ _ _ _ _ word (ap (λ (x : Entered). x.head.serial) c.load_into-entered.ensures.value) l.words in
     record { value = l.result; state_after = l.words; answer_after = l.answered; load_holds = held; alike_buffers = (alike-buffers, buffers-fly) }

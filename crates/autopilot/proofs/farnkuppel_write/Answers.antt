@@ -25,21 +25,21 @@ returns-then-not-fits c =
 pub holds_state-requires : goal.holds_state-requires
 holds_state-requires c = (long c).0
 
-pub put_words-requires : goal.put_words-requires
-put_words-requires c = (long (goal.at.put_words-requires c).Else-not-fits).1
+pub put-requires : goal.put-requires
+put-requires c = (long (goal.at.put-requires c).Else-not-fits).1
 
 pub returns-then-not-holds_state : goal.returns-then-not-holds_state
 returns-then-not-holds_state c =
     let k = not-held _ (sym c.holds_state.ensures.value ∙ c.if-not-holds_state.true) in
-    let l = write-none _ _ _ _ (sym c.fits.ensures ∙ c.if-not-fits.false) _ _ (from-none _ _ _ k) refl c.put_words.ensures in
+    let l = write-none _ _ _ _ (sym c.fits.ensures ∙ c.if-not-fits.false) _ _ (from-none _ _ _ k) refl c.put.ensures.part_after in
     record { value = l.result; file_after = l.written; answer_after = l.answered; untouched = l.kept }
 
 pub write_at-written-requires : goal.write_at-written-requires
 write_at-written-requires c =
     ((long (goal.at.write_at-written-requires c).Else-not-fits).0, sym c.holds_state.ensures.value ∙ c.if-not-holds_state.false)
 
-pub put_words-requires-2 : goal.put_words-requires-2
-put_words-requires-2 c = (long (goal.at.put_words-requires-2 c).Else-not-fits).1
+pub put-requires-2 : goal.put-requires-2
+put-requires-2 c = (long (goal.at.put-requires-2 c).Else-not-fits).1
 
 pub returns : goal.returns
 returns c =
@@ -47,7 +47,7 @@ returns c =
     let x = c.write_at-written.result in
     let l = write-fit _ _ _ _ (sym c.fits.ensures ∙ c.if-not-fits.false) x _ _ (c.write_at-written.ensures.value ∙ ap written_of o)
     (c.write_at-written.ensures.file_after ∙ ap (λ (q : Outcome (List ℕ)). buffer_of q c.args.file.now) o)
-    (c.put_words-2.ensures
+    (c.put-2.ensures.part_after
     ∙ ap (λ (n : ℕ). over (x.refusal ∷ n ∷ c.word-2.result ∷ []) c.args.answer.now) c.word.ensures
     ∙ ap (λ (n : ℕ). over (x.refusal ∷ word_of x.place ∷ n ∷ []) c.args.answer.now) c.word-2.ensures) in
     record { value = l.result; file_after = l.written; answer_after = l.answered; untouched = l.kept }

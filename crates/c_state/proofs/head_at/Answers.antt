@@ -11,10 +11,10 @@ overflow_cast-result c =
 pub returns : goal.returns
 returns c = (
   (λ t. record {
-    serial = c.word_at-2.ensures.0 t;
-    mode = (c.mode_at-mode.ensures ∙ ap mode_at c.word_at.ensures.0) t;
+    serial = c.word_at.ensures.0 t;
+    mode = (c.mode_at.ensures ∙ ap mode_at c.word_at-2.ensures.0) t;
     radius = c.word_at-3.ensures.0 t;
     count = c.word_at-4.ensures.0 t;
   }),
-  four-words c.args.words.now c.word_at-2.ensures.1 c.word_at.ensures.1 c.word_at-3.ensures.1 c.word_at-4.ensures.1,
+  four-words c.args.words.now c.word_at.ensures.1 c.word_at-2.ensures.1 c.word_at-3.ensures.1 c.word_at-4.ensures.1,
 )

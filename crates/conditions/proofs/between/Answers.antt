@@ -1,14 +1,10 @@
--- `between` makes the two tests of the definition, in its order. Assumes nothing.
-use mathlib.Core.Path.{sym}
-use borrow.Author.Tests.{le-leb, lt-leb}
+-- `between` is whether the closed range holds x. Assumes nothing.
+use Rattle.std.proofs.Common.{arith}
+use Rattle.std.proofs.lemmas.Bool.Decides.{nat_tests}
+use Rattle.conditions.specs.Both.{both}
 use Rattle.conditions.specs.Between.{between}
-use Rattle.conditions.proofs.Bools.{both-on, both-off}
 use Rattle.conditions.proofs.between.Goals as goal
 
-pub returns-then-low-x : goal.returns-then-low-x
-unfolding between
-returns-then-low-x c = sym (both-on _ _ (le-leb _ _ c.if-low-x.true))
-
 pub returns : goal.returns
-unfolding between
-returns c = sym (both-off _ _ (lt-leb _ _ c.if-low-x.false))
+unfolding between both
+returns c = grind (arith, nat_tests, c.contains.ensures.value, c.new.ensures)

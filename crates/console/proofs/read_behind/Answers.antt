@@ -13,4 +13,4 @@ returns-clause-room_unchanged g c =
     let new = take n chunk in
     let h : a.done ≤ length a.room.now = c.requires in
     left_behind a.done n new a.room.now _ (length-take-le n chunk c.read_some-read.ensures.0.0) h
-    (lent a.done new a.room.now c.put_bytes.new.part c.put_bytes.ensures.part_after)
+    (lent a.done new a.room.now c.put.new.part c.put.ensures.part_after)

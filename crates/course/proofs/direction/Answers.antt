@@ -11,7 +11,7 @@ use Rattle.course.proofs.VectorLaws.{vector}
 use Rattle.course.proofs.TableLaws.{sine-most}
 use Rattle.course.proofs.DirectionLaws.{turned_round, direction-here}
 use Rattle.course.proofs.direction.Goals as goal
-use Rattle.course.proofs.direction.Goals.{After-worked_sine-east}
+use Rattle.course.proofs.direction.Goals.{After-entry-east}
 
 -- the two parts of the first quarter, and their bounds
 record Parts (k a b : ℕ) : Type 0 where
@@ -20,14 +20,14 @@ record Parts (k a b : ℕ) : Type 0 where
   north-most : a ≤ 16384
   east-most : b ≤ 16384
 
-parts : (c : After-worked_sine-east) → Parts c.args.k c.worked_sine-north.result c.worked_sine-east.result
+parts : (c : After-entry-east) → Parts c.args.k c.entry-north.result c.entry-east.result
 parts c =
     let k = c.args.k in
     record {
-      north = c.worked_sine-north.ensures;
-      east = c.worked_sine-east.ensures;
-      north-most = omega (arith, c.worked_sine-north.ensures, sine-most (1024 - k % 1024) (omega arith));
-      east-most = omega (arith, c.worked_sine-east.ensures, sine-most (k % 1024) (omega arith));
+      north = c.entry-north.ensures;
+      east = c.entry-east.ensures;
+      north-most = omega (arith, c.entry-north.ensures, sine-most (1024 - k % 1024) (omega arith));
+      east-most = omega (arith, c.entry-east.ensures, sine-most (k % 1024) (omega arith));
     }
 
 -- and the quarters are counted from 0 to 3
@@ -36,10 +36,10 @@ whole {k} {a} {b} p =
     turned_round (k / 1024) (plain a b) ∙ (λ i. turned (k / 1024) (plain (p.north i) (p.east i))) ∙ sym (direction-here k)
 
 pub overflow_cast-north : goal.overflow_cast-north
-overflow_cast-north c = omega (arith, c.worked_sine-north.ensures, sine-most (1024 - c.args.k % 1024) (omega arith))
+overflow_cast-north c = omega (arith, c.entry-north.ensures, sine-most (1024 - c.args.k % 1024) (omega arith))
 
 pub overflow_cast-east : goal.overflow_cast-east
-overflow_cast-east c = omega (arith, c.worked_sine-east.ensures, sine-most (c.args.k % 1024) (omega arith))
+overflow_cast-east c = omega (arith, c.entry-east.ensures, sine-most (c.args.k % 1024) (omega arith))
 
 pub turned_by-requires : goal.turned_by-requires
 turned_by-requires c =

@@ -4,4 +4,4 @@ use Rattle.course.proofs.edge_east.Goals as goal
 
 pub returns : goal.returns
 unfolding edge_east
-returns c = c.worked_sine.ensures
+returns c = c.entry.ensures

@@ -1,5 +1,5 @@
--- `entry` gives S[k] of a lent table. Assumes nothing.
+-- `entry` gives S[k] of the table that is lent. Assumes nothing.
 use Rattle.course.proofs.entry.Goals as goal
 
 pub returns : goal.returns
-returns c = c.requires.1 c.args.k c.requires.0
+returns c = c.table.ensures c.args.k c.requires

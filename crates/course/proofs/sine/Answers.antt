@@ -3,5 +3,5 @@ use Rattle.course.proofs.TableLaws.{are-sines}
 use Rattle.course.proofs.DirectionLaws.{table-facts}
 use Rattle.course.proofs.sine.Goals as goal
 
-pub returns : goal.returns
-returns c = record { value = c.entry.ensures; are_sines = (are-sines, table-facts) }
+pub returns-clause-are_sines : goal.returns-clause-are_sines
+returns-clause-are_sines c = (are-sines, table-facts)

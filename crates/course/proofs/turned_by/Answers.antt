@@ -1,7 +1,6 @@
 -- `turned_by` turns a vector by q quarters, and its parts keep their bound. Assumes nothing.
 use mathlib.Core.Path.{sym, ◌∙◌}
 use native.Mathlib.Omega.{arith}
-use Rattle.integers.proofs.BoundLaws.{overflow}
 use Rattle.integers.proofs.ValueLaws.{value, is}
 use Rattle.course.specs.Vectors.{Near}
 use Rattle.course.specs.Direction.{turned}
@@ -14,34 +13,22 @@ use Rattle.course.proofs.turned_by.Goals.{Start}
 near : (c : Start) → Near 16384 (turned c.args.q (record { north = c.args.north; east = c.args.east }))
 near c = turned-near c.args.q (record { north = c.args.north; east = c.args.east }) (record { north = c.requires.1.0; east = c.requires.1.1 })
 
-pub returns-then-q-eq0 : goal.returns-then-q-eq0
-returns-then-q-eq0 c =
+pub returns-in-0 : goal.returns-in-0
+returns-in-0 c =
     let s = c.args in
     carried (vector (is (search value depth 20 fits 5000)) (is (search value depth 20 fits 5000)) ∙ sym (turned-0 s.q s.north s.east (omega arith))) (near c.before)
 
-pub overflow_sub-result : goal.overflow_sub-result
-overflow_sub-result c = search overflow depth 20 fits 5000
-
-pub returns-then-q-eq1 : goal.returns-then-q-eq1
-returns-then-q-eq1 c =
+pub returns-in-1 : goal.returns-in-1
+returns-in-1 c =
     let s = c.args in
-    carried (vector (is (search value depth 20 fits 5000)) (is (search value depth 20 fits 5000)) ∙ sym (turned-1 s.q s.north s.east (omega arith))) (near c.before.before)
+    carried (vector (is (search value depth 20 fits 5000)) (is (search value depth 20 fits 5000)) ∙ sym (turned-1 s.q s.north s.east (omega arith))) (near c.before)
 
-pub overflow_sub-result-then-q-eq2 : goal.overflow_sub-result-then-q-eq2
-overflow_sub-result-then-q-eq2 c = search overflow depth 20 fits 5000
-
-pub overflow_sub-result-then-q-eq2-2 : goal.overflow_sub-result-then-q-eq2-2
-overflow_sub-result-then-q-eq2-2 c = search overflow depth 20 fits 5000
-
-pub returns-then-q-eq2 : goal.returns-then-q-eq2
-returns-then-q-eq2 c =
+pub returns-in-2 : goal.returns-in-2
+returns-in-2 c =
     let s = c.args in
-    carried (vector (is (search value depth 20 fits 5000)) (is (search value depth 20 fits 5000)) ∙ sym (turned-2 s.q s.north s.east (omega arith))) (near c.before.before.before)
+    carried (vector (is (search value depth 20 fits 5000)) (is (search value depth 20 fits 5000)) ∙ sym (turned-2 s.q s.north s.east (omega arith))) (near c.before)
 
-pub overflow_sub-result-2 : goal.overflow_sub-result-2
-overflow_sub-result-2 c = search overflow depth 20 fits 5000
-
-pub returns : goal.returns
-returns c =
+pub returns-in_default : goal.returns-in_default
+returns-in_default c =
     let s = c.args in
-    carried (vector (is (search value depth 20 fits 5000)) (is (search value depth 20 fits 5000)) ∙ sym (turned-3 s.q s.north s.east (omega arith))) (near c.before.before.before)
+    carried (vector (is (search value depth 20 fits 5000)) (is (search value depth 20 fits 5000)) ∙ sym (turned-3 s.q s.north s.east (omega arith))) (near c.before)

@@ -15,5 +15,5 @@ pub returns : goal.returns
 returns c =
     let number = c.refusal-found.ensures.number_value in
     let place = c.word.ensures ∙ ap word_of c.refusal-found.ensures.place_value in
-    let t = tell-fit _ _ _ _ (words_long 2 _ c.if-answer-lt-CHECK_ANSWER.false) _ _ _ number (λ i. number i ∷ place i ∷ []) c.put_words.ensures in
+    let t = tell-fit _ _ _ _ (words_long 2 _ c.if-answer-lt-CHECK_ANSWER.false) _ _ _ number (λ i. number i ∷ place i ∷ []) c.put.ensures.part_after in
     record { value = t.result; answer_after = t.told; words_example = words-in-numbers }

@@ -15,8 +15,8 @@ returns-then-not-fits c =
     let l = show-unfit _ _ _ _ (sym c.fits.ensures ∙ c.if-not-fits.true) in
     record { value = l.result; note_after = l.shown; answer_after = l.answered; number_len_bound = (note-short _ _, in-numbers) }
 
-pub put_bytes-requires : goal.put_bytes-requires
-put_bytes-requires c =
+pub put-requires : goal.put-requires
+put-requires c =
     le_trans (given-short _ _ _ c.note-bytes.ensures) (fits-means _ _ (sym c.fits.ensures ∙ c.if-not-fits.false)).0
 
 pub overflow_cast-answer : goal.overflow_cast-answer
@@ -31,6 +31,6 @@ bounds-answer-0 c =
 pub returns : goal.returns
 returns c =
     let f = sym c.fits.ensures ∙ c.if-not-fits.false in
-    let l = show-fit _ _ _ _ f _ _ _ c.note-bytes.ensures c.put_bytes.ensures.part_after
+    let l = show-fit _ _ _ _ f _ _ _ c.note-bytes.ensures c.put.ensures.part_after
     (sets-eq (length c.note-bytes.result.now ∷ []) c.args.answer.now 0 (fits-means _ _ f).1) in
     record { value = l.result; note_after = l.shown; answer_after = l.answered; number_len_bound = (note-short _ _, in-numbers) }

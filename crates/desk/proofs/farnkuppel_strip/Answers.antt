@@ -15,8 +15,8 @@ returns-then-not-fits c =
 pub told_at-told-requires : goal.told_at-told-requires
 told_at-told-requires c = (pair-means _ _ _ (sym c.fits.ensures ∙ c.if-not-fits.false)).0
 
-pub put_words-requires : goal.put_words-requires
-put_words-requires c =
+pub put-requires : goal.put-requires
+put-requires c =
     (pair-means _ _ _ (sym c.fits.ensures ∙ c.if-not-fits.false)).1
 
 pub returns : goal.returns
@@ -26,5 +26,5 @@ returns c =
     let course = c.word-2.ensures ∙ ap (λ (r : Strip). word_of r.course) x in
     let length = c.word-3.ensures ∙ ap (λ (r : Strip). word_of r.length) x in
     let f = sym c.fits.ensures ∙ c.if-not-fits.false in
-    let t = tell-fit _ _ _ _ f _ _ _ refl (λ i. number i ∷ course i ∷ length i ∷ []) c.put_words.ensures in
+    let t = tell-fit _ _ _ _ f _ _ _ refl (λ i. number i ∷ course i ∷ length i ∷ []) c.put.ensures.part_after in
     record { value = t.result; answer_after = t.told }

@@ -16,8 +16,8 @@ returns-then-not-fits c =
 pub told_at-told-requires : goal.told_at-told-requires
 told_at-told-requires c = (pair-means _ _ _ (sym c.fits.ensures ∙ c.if-not-fits.false)).0
 
-pub put_words-requires : goal.put_words-requires
-put_words-requires c =
+pub put-requires : goal.put-requires
+put-requires c =
     (pair-means _ _ _ (sym c.fits.ensures ∙ c.if-not-fits.false)).1
 
 pub returns : goal.returns
@@ -28,5 +28,5 @@ returns c =
     let rule = ap (λ (r : Checked). r.rule) x in
     let strips = c.word-2.ensures ∙ ap (λ (r : Checked). word_of r.strips) x in
     let f = sym c.fits.ensures ∙ c.if-not-fits.false in
-    let t = tell-fit _ _ _ _ f _ _ _ number (λ i. number i ∷ place i ∷ rule i ∷ strips i ∷ []) c.put_words.ensures in
+    let t = tell-fit _ _ _ _ f _ _ _ number (λ i. number i ∷ place i ∷ rule i ∷ strips i ∷ []) c.put.ensures.part_after in
     record { value = t.result; answer_after = t.told; strips_example = strips-in-numbers }

@@ -1,10 +1,10 @@
 -- `better_length` gives the lesser of a length and that of a case, whether or not the case is worked out. Assumes nothing.
+use Rattle.std.proofs.Common.{Option, Some}
 use mathlib.Core.Path.{◌≡◌, sym, ap, ◌∙◌, subst}
 use mathlib.Core.Bool.{true}
 use native.Mathlib.Omega.{arith}
+use Rattle.dubins.specs.declared.Path.{Path}
 use Rattle.dubins.specs.declared.Circles.{Circles}
-use Rattle.dubins.specs.declared.Found.{Found}
-use Rattle.dubins.specs.declared.Found.TheVariants.{Shortest}
 use Rattle.dubins.specs.Cases.{circles_of, tangent_exists, case_exists, path_of}
 use Rattle.dubins.specs.Choice.{case_path}
 use Rattle.dubins.specs.Ways.{Measures}
@@ -33,7 +33,7 @@ there i = sym (tested i.before) ∙ i.if-not-tangent_exists.false
 -- the case, once it is worked out
 found : (c : After-case_length-length)
     → let a = c.args in
-    case_path a.ends a.case ≡ Shortest (path_of a.ends a.case c.circles_at-circles.result c.straight-s.result c.straight_course-course.result)
+    case_path a.ends a.case ≡ Some (path_of a.ends a.case c.circles_at-circles.result c.straight-s.result c.straight_course-course.result)
 found c =
     let a = c.args in
     case-there a.ends a.case c.circles_at-circles.result c.straight-s.result c.straight_course-course.result
@@ -50,21 +50,21 @@ returns-then-not-tangent_exists c f e =
 
 pub no_shorter-requires : goal.no_shorter-requires
 no_shorter-requires c =
-    (c.requires.ends.0, c.circles_at-circles.ensures.1.v)
+    (c.requires.ends, c.circles_at-circles.ensures.1.v)
 
 pub returns-then-no_shorter : goal.returns-then-no_shorter
 returns-then-no_shorter c f e =
     let a = c.args in
     let h = c.no_shorter.ensures c.if-no_shorter.true in
-    subst (λ (g : Found). Measures g a.best) (sym (not-shorter a.ends a.case a.best c.circles_at-circles.result (there c.before.before) (circles c.before.before.before.before.before) h.0 h.1 f e)) e
+    subst (λ (g : Option Path). Measures g a.best) (sym (not-shorter a.ends a.case a.best c.circles_at-circles.result (there c.before.before) (circles c.before.before.before.before.before) h.0 h.1 f e)) e
 
 pub straight-s-requires : goal.straight-s-requires
 straight-s-requires c =
-    (c.circles_at-circles.ensures.1.v, (c.requires.ends.0.radius, sym c.tangent_exists.ensures ∙ c.if-not-tangent_exists.false))
+    (c.circles_at-circles.ensures.1.v, (c.requires.ends.radius, sym c.tangent_exists.ensures ∙ c.if-not-tangent_exists.false))
 
 pub straight_course-course-requires : goal.straight_course-course-requires
 straight_course-course-requires c =
-    (c.circles_at-circles.ensures.1.v, (c.straight-s.ensures.1, c.requires.ends.0.radius))
+    (c.circles_at-circles.ensures.1.v, (c.straight-s.ensures.1, c.requires.ends.radius))
 
 pub returns-then-length-best : goal.returns-then-length-best
 unfolding path_of

@@ -1,16 +1,12 @@
 -- `found_by` gives the path of a case that was tried. Assumes nothing.
-use mathlib.Core.Path.{subst}
-use Rattle.dubins.specs.Ways.{IsTried, found_by}
+use Rattle.std.proofs.Common.{rules, ◌≡◌, subst, sym}
+use Rattle.dubins.specs.Limits.{IsFound}
+use Rattle.dubins.specs.Ways.{found_by}
+use Rattle.dubins.proofs.PathBounds.{found-is}
 use Rattle.dubins.proofs.found_by.Goals as goal
 
-pub path_along-requires : goal.path_along-requires
-path_along-requires c =
-    (subst IsTried c.in-Exists.is c.requires.0, c.requires.1)
-
-pub returns-in-Exists : goal.returns-in-Exists
+pub returns : goal.returns
 unfolding found_by
-returns-in-Exists c = (simp (c.in-Exists.is, c.path_along.ensures.0), c.path_along.ensures.1)
-
-pub returns-in-Absent : goal.returns-in-Absent
-unfolding found_by
-returns-in-Absent c = (simp c.in-Absent.is, tt)
+returns c =
+    let e : c.map.result ≡ found_by c.args.radius c.args.tried = search rules in
+    (e, subst IsFound (sym e) (found-is c.args.radius c.args.tried c.requires.0 c.requires.1))

@@ -1,19 +1,16 @@
 -- `length_before` gives the length of what was found, or more than any length. Assumes nothing.
-use mathlib.Core.Path.{refl, subst}
-use Prim.Native.Nat.{◌<◌}
-use native.Mathlib.Omega.{arith}
-use Rattle.dubins.specs.Ways.{IsTried, path_along, found_by}
+use Rattle.std.proofs.Common.{rules, ◌≡◌, Option, Some, None, refl, subst, sym, arith, ◌<◌, ℕ}
+use Rattle.std.specs.Option.{option_map_or}
+use Rattle.dubins.specs.declared.Way.{Way}
+use Rattle.dubins.specs.Ways.{IsTried, path_along, found_by, no_length, Measures}
 use Rattle.dubins.proofs.length_before.Goals as goal
 
-pub returns-in-Exists : goal.returns-in-Exists
+measured : (tried : Option Way) → IsTried tried → (R : ℕ) → Measures (found_by R tried) (option_map_or (λ (w : Way). w.length) tried no_length)
 unfolding found_by path_along
-returns-in-Exists c R =
-    let w = c.in-Exists.way in
-    let e = c.in-Exists.is in
-    let k = subst IsTried e c.requires in
-    let h : w.length < 2000000 = omega (arith, k) in
-    simp e (refl, h)
+measured (Some w) k R = let h : w.length < 2000000 = omega (arith, k) in (refl, h)
+measured None k R = refl
 
-pub returns-in-Absent : goal.returns-in-Absent
-unfolding found_by
-returns-in-Absent c R = simp c.in-Absent.is refl
+pub returns : goal.returns
+returns c R =
+    let e : c.map_or.result ≡ option_map_or (λ (w : Way). w.length) c.args.best no_length = search rules in
+    subst (λ (n : ℕ). Measures (found_by R c.args.best) n) (sym e) (measured c.args.best c.requires R)

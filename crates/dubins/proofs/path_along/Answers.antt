@@ -7,5 +7,5 @@ unfolding path_along
 returns c =
     let w = c.requires.0 in (
       simp (c.touch-z2.ensures.0, c.ends_right.ensures, c.touch-z1.ensures.0, c.starts_right.ensures),
-      record { least = w.least; most = w.most; course = w.course; length = w.length; start = w.start; end = w.end; z1 = c.touch-z1.ensures.1; z2 = c.touch-z2.ensures.1 },
+      record { course = w.course; length = w.length; start = w.start; end = w.end; z1 = c.touch-z1.ensures.1; z2 = c.touch-z2.ensures.1 },
     )

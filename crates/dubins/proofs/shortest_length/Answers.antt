@@ -1,7 +1,8 @@
 -- `shortest_length` tries RSR and LSL, then RSL and LSR, and keeps the least length, which is that of any order. Assumes nothing.
+use Rattle.std.proofs.Common.{Option}
 use mathlib.Core.Path.{subst}
 use native.Mathlib.Omega.{arith}
-use Rattle.dubins.specs.declared.Found.{Found}
+use Rattle.dubins.specs.declared.Path.{Path}
 use Rattle.dubins.specs.Choice.{shortest_of}
 use Rattle.dubins.specs.Ways.{Measures}
 use Rattle.dubins.proofs.ShortestLaws.{shortest-all, measures-found, measures-none}
@@ -13,7 +14,7 @@ use Rattle.dubins.proofs.shortest_length.Goals.{After-better_length-best}
 tried : (c : After-better_length-best) → Measures (shortest_of c.args.ends) c.better_length-best.result
 tried c =
     let ends = c.args.ends in
-    subst (λ (f : Found). Measures f c.better_length-best.result) (shortest-all ends)
+    subst (λ (f : Option Path). Measures f c.better_length-best.result) (shortest-all ends)
     (outer-first ends _ (c.better_length-best.ensures _ (c.better_length-rsl.ensures _ c.outer_length-outer.ensures)))
 
 pub returns-then-best-lt-NO_LENGTH : goal.returns-then-best-lt-NO_LENGTH

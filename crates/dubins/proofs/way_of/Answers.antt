@@ -7,4 +7,4 @@ pub returns : goal.returns
 unfolding path_along path_of
 returns c =
     let h = c.requires in
-    (simp c.case_length-length.ensures.0, record { least = h.0.1.0; most = h.0.1.1; course = h.1.1.1; length = c.case_length-length.ensures.1; start = h.1.0.start; end = h.1.0.end })
+    (simp c.case_length-length.ensures.0, record { course = h.1.1.1; length = c.case_length-length.ensures.1; start = h.1.0.start; end = h.1.0.end })

@@ -2,16 +2,12 @@
 use mathlib.Core.Path.{sym}
 use Rattle.conditions.proofs.ChooseLaws.{choose-true, choose-false}
 use Rattle.integers.specs.Floats.{bits_from}
-use Rattle.integers.proofs.FloatLaws.{compared}
 use Rattle.integers.proofs.bits_of.Goals as goal
-
-pub float_to_bits-result : goal.float_to_bits-result
-float_to_bits-result c = compared _ _ c.if-x.true
 
 pub returns-then-x : goal.returns-then-x
 unfolding bits_from
 returns-then-x c = sym (choose-true _ _ _ c.if-x.true)
 
-pub returns : goal.returns
+pub returns-else-x : goal.returns-else-x
 unfolding bits_from
-returns c = sym (choose-false _ _ _ c.if-x.false)
+returns-else-x c = sym (choose-false _ _ _ c.if-x.false)

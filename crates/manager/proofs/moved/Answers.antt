@@ -4,7 +4,7 @@ use Rattle.manager.proofs.StateLaws.{index-most}
 use Rattle.manager.proofs.moved.Goals as goal
 
 pub next-requires : goal.next-requires
-next-requires c = index-most _ c.requires.1.0
+next-requires c = index-most _ c.requires.0
 
 pub returns : goal.returns
 unfolding moved_of

@@ -12,8 +12,8 @@ returns-then-stands c =
     let h = sym c.stands.ensures.0 ∙ c.if-stands.true in
     told _ _ (valid-means _) (rw both-on c.placed.ensures)
 
-pub returns : goal.returns
+pub returns-else-stands : goal.returns-else-stands
 unfolding valid_of
-returns c =
+returns-else-stands c =
     let h = sym c.stands.ensures.0 ∙ c.if-stands.false in
-    told _ _ (valid-means _) (rw both-off)
+    told _ _ (valid-means _) (c.if-stands.false ∙ sym (both-off _ _ h))

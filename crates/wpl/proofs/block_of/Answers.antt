@@ -5,4 +5,4 @@ use Rattle.wpl.proofs.block_of.Goals as goal
 
 pub returns : goal.returns
 returns c =
-    block-copied c.args.from c.args.numbers.now _ _ c.requires refl c.put_numbers.ensures
+    block-copied c.args.from c.args.numbers.now _ _ c.requires refl c.put.ensures.part_after

@@ -18,4 +18,4 @@ promise : (s : State) (serial : ℕ) (fix : Fix) {r : Stepped} → r ≡ step_of
 promise s serial fix e = (e, (subst (Finishes s fix) (sym e) (finishes s serial fix), (subst (Flies s serial fix) (sym e) (flies s serial fix), last-leg)))
 
 pub returns : goal.returns
-returns c = promise _ _ _ c.decide-decided.ensures
+returns c = promise _ _ _ (rw c.lent.ensures at c.decide-decided.ensures)
