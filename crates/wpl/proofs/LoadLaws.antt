@@ -2,18 +2,22 @@
 -- the lists of the file. Assumes nothing.
 use mathlib.Core.Path.{◌≡◌, refl, sym, ap, subst, ◌∙◌}
 use mathlib.Core.Bool.{true, false}
-use mathlib.Core.List.{List, append-nil}
+use mathlib.Core.List.{List, [], ◌∷◌, append-nil}
 use mathlib.Core.Logic.{⊎_elim}
 use Prim.Native.Nat.{ℕ, ◌+◌, ◌-◌, ◌≤◌, ◌<◌}
 use native.Mathlib.Omega.{arith}
 use lib.Dec.{eqb, leb, ltb}
 use lib.IntN.{ℤ, pos}
+use Rattle.std.proofs.Common.{Result, Ok, Err, nat_eq}
+use Rattle.std.specs.List.{starts_with}
+use Rattle.std.specs.Result.{IsErrAnd}
+use Rattle.conditions.specs.Both.{both}
 use lib.ListN.{length, take, drop, length-drop, drop_of_length-le, get_or-eq_default}
 use lib.Seq.{length-take-le}
-use borrow.Author.Tests.{le-leb, lt-leb, lt-ltb, le-ltb, eq-eqb, ne_eqb, ltb-true, ltb-false, eqb-true}
+use borrow.Author.Tests.{le-leb, lt-leb, lt-ltb, le-ltb, eq-eqb, ne_eqb, ltb-true, ltb-false, eqb-true, eqb-false}
 use Rattle.conditions.proofs.ChooseLaws.{choose-false}
 use Rattle.conditions.proofs.Bools.{by_bool, clash, both-on, both-second, both-off, both-off-second}
-use Rattle.conditions.proofs.BetweenLaws.{between-test, between-under, between-over}
+use Rattle.conditions.specs.Between.{between}
 use Rattle.integers.proofs.BoundLaws.{within-lit}
 use Rattle.refusals.specs.declared.Refusal.{Refusal}
 use Rattle.refusals.specs.Numbers.{file_too_short, no_mark, no_version, no_serial, wrong_area}
@@ -35,19 +39,20 @@ use Rattle.plan.specs.Loaded.{plan_of}
 use Rattle.plan.proofs.PlannedLaws.{filled-long, planned-filled, planned-back, padded-filled, padded-within, point-within}
 use Rattle.plan.proofs.PlaceLaws.{rules-padded}
 use Rattle.plan.proofs.RuleLaws.{rules-few, rules-many, rules-courses, rules-proper, rules-clean, rules-passed}
+use Rattle.manager.specs.declared.Progress.{Progress}
 use Rattle.manager.specs.declared.State.{State}
 use Rattle.manager.specs.State.{empty_plan, empty_state, first_progress, start_of}
 use Rattle.records.specs.Versions.{newest}
 use Rattle.records.specs.Kinds.{Parts, no_parts}
 use Rattle.records.specs.Gather.{header_length, gather_from, InRange}
 use Rattle.records.specs.declared.Gathered.{Gathered}
-use Rattle.records.specs.Held.{counted, gathered_of, numbers_in}
+use Rattle.records.specs.Held.{counted, answer_of, gathered_of, numbers_in}
 use Rattle.records.specs.Walk.{walk}
 use Rattle.records.proofs.GatherLaws.{gather-ranged, none-ranged, gather-proper, gathered-good, gathered-refused}
 use Rattle.wpl.specs.declared.Loaded.{Loaded}
 use Rattle.wpl.specs.declared.Entered.{Entered}
-use Rattle.wpl.specs.Header.{most_area, marked_of, version_of, serial_of, area_of, area_fits, header_of}
-use Rattle.wpl.specs.Load.{records_of, parts_of, settle_of, rules_in, finish_of, body_of, load_of, loaded_of, head_from, entered_of}
+use Rattle.wpl.specs.Header.{most_area, marked_of, version_of, serial_of, area_of, area_fits, header_of, passed_of}
+use Rattle.wpl.specs.Load.{records_of, parts_of, settle_of, rules_in, finish_of, body_of, load_of, loaded_of, refused_of, head_from, head_in, entered_of}
 use Rattle.wpl.proofs.LoadStepLaws.{load-steps}
 
 -- ---- refusals 1 to 5
@@ -59,6 +64,22 @@ module _ (f : List ℕ) (n : ℕ) (e : n ≡ area_of f) where
   pub area-other : (n ≡ length f - header_length → ⊥) → area_fits f ≡ false
   unfolding area_fits
   area-other k = both-off _ _ (ne_eqb _ _ (λ q. k (e ∙ q)))
+
+-- the mark, as the library compares it
+eqb-swap : (x y : ℕ) → eqb x y ≡ eqb y x
+eqb-swap x y =
+    by_bool (eqb y x) (λ t. eq-eqb x y (sym (eqb-true y x t)) ∙ sym t) (λ t. ne_eqb x y (λ z. eqb-false y x t (sym z)) ∙ sym t)
+
+pub mark_first : (f : List ℕ) → 3 ≤ length f → starts_with nat_eq f (0x57 ∷ 0x50 ∷ 0x4C ∷ []) ≡ marked_of f
+unfolding marked_of both
+mark_first [] h = absurd (omega arith)
+mark_first (a ∷ []) h = absurd (omega arith)
+mark_first (a ∷ b ∷ []) h = absurd (omega arith)
+mark_first (a ∷ b ∷ c ∷ s) h =
+    rw (eqb-swap 0x57 a, eqb-swap 0x50 b, eqb-swap 0x4C c)
+    (by_bool (eqb a 0x57)
+    (λ t. rw t (by_bool (eqb b 0x50) (λ u. rw u (by_bool (eqb c 0x4C) (λ v. rw v refl) (λ v. rw v refl))) (λ u. rw u refl)))
+    (λ t. rw t refl))
 
 module _ (f : List ℕ) where
   pub too_short : length f < header_length → header_of f ≡ refused file_too_short 0
@@ -99,6 +120,22 @@ module _ (f : List ℕ) where
       proper-check _ file_too_short _ refl
       (proper-check _ no_mark _ refl (proper-check _ no_version _ refl (proper-check _ no_serial _ refl (proper-check _ wrong_area _ refl (proper-good done)))))
 
+  -- as the code answers it
+  pub failed-passed : (n : ℕ) (x : Refusal) → x ≡ refusal_of (check false n (good done)) → header_of f ≡ refused n 0
+      → ◌≡◌ {A = Result (Unit {0}) Refusal} (Err x) (passed_of (header_of f))
+  unfolding refusal_of check passed_of
+  failed-passed n x k h = rw (k, h) refl
+
+pub passed-good : (o : Outcome Done) (u : Unit {0}) → passed_of o ≡ Ok u → o ≡ good done
+unfolding passed_of
+passed-good (good done) u h = refl
+passed-good (refused n p) u h = cc
+
+pub passed-refused : (o : Outcome Done) (e : Refusal) → passed_of o ≡ Err e → o ≡ refused e.number e.place
+unfolding passed_of
+passed-refused (good d) e h = cc
+passed-refused (refused n p) e h = let k : record { number = n; place = p } ≡ e = cc in ap (λ (x : Refusal). refused x.number x.place) k
+
 -- ---- one check after another
 pub refusal_is : {A : Type 0} (o : Outcome A) (n q : ℕ) → refusal_of o ≡ record { number = n; place = q } → (n ≡ 0 → ⊥) → o ≡ refused n q
 unfolding refusal_of
@@ -106,26 +143,21 @@ refusal_is (good a) n q e h = absurd (h (sym (ap (λ (r : Refusal). r.number) e)
 refusal_is {A} (refused m p) n q e h = λ i. refused (e i).number (e i).place
 
 module _ (r : ℕ) (f : List ℕ) where
-  pub reader-low : r < 1 → load_of r f ≡ refused no_version 0
+  pub reader-wrong : between 1 newest r ≡ false → load_of r f ≡ refused no_version 0
   unfolding load_of
-  reader-low h = check-false _ no_version _ (between-under 1 newest r h)
+  reader-wrong t = check-false _ no_version _ t
 
-  pub reader-high : newest < r → load_of r f ≡ refused no_version 0
-  unfolding load_of
-  reader-high h = check-false _ no_version _ (between-over 1 newest r h)
-
-  module _ (low : 1 ≤ r) (high : r ≤ newest) where
+  module _ (served : between 1 newest r ≡ true) where
     reader-right : load_of r f ≡ and_then (header_of f) (λ (_ : Done). body_of r f)
     unfolding load_of
-    reader-right = check-true _ no_version _ (between-test 1 newest r low high)
+    reader-right = check-true _ no_version _ served
 
-    pub header-stops : (n : ℕ) → refusal_of (header_of f) ≡ record { number = n; place = 0 } → (n ≡ 0 → ⊥) → load_of r f ≡ refused n 0
-    header-stops n e h = reader-right ∙ then-stops (header_of f) n 0 _ (refusal_is (header_of f) n 0 e h)
+    pub header-stops : (n p : ℕ) → header_of f ≡ refused n p → load_of r f ≡ refused n p
+    header-stops n p h = reader-right ∙ then-stops (header_of f) n p _ h
 
-    module _ (n : ℕ) (e : refusal_of (header_of f) ≡ record { number = n; place = 0 }) (z : n ≡ 0) where
+    module _ (passed : header_of f ≡ good done) where
       header-passes : load_of r f ≡ body_of r f
-      header-passes =
-          reader-right ∙ then-good (header_of f) done _ (good-is (header_of f) (header-proper f ∙ ap (λ (q : Refusal). eqb q.number 0) e ∙ ap (λ (k : ℕ). eqb k 0) z))
+      header-passes = reader-right ∙ then-good (header_of f) done _ passed
 
       pub records-stop : (m q : ℕ) → parts_of r f ≡ refused m q → load_of r f ≡ refused m q
       unfolding body_of
@@ -248,10 +280,9 @@ module _ (serial : ℕ) (a : Parts) where
       (λ x. stored (ltb-false _ _ u) (ltb-false _ _ w) (ltb-false _ _ x))))
 
 -- the plan as `finish` finds it in lent numbers
-module _ (serial : ℕ) (g : Gathered) (h : Head) (fits : h ≡ head_from serial g) (numbers : List ℤ) (a : Parts) (e : g ≡ gathered_of (good a))
+module _ (serial : ℕ) (g : Gathered) (h : Head) (fits : h ≡ head_from serial g) (numbers : List ℤ) (a : Parts) (e : g ≡ answer_of a)
     (held : numbers ≡ numbers_in a) where
   head-made : h ≡ (held_plan serial a).head
-  unfolding gathered_of
   head-made = fits ∙ ap (head_from serial) e
 
   made : planned_in h numbers ≡ held_plan serial a
@@ -262,7 +293,6 @@ module _ (serial : ℕ) (g : Gathered) (h : Head) (fits : h ≡ head_from serial
 
   module _ (found : Refusal) (k : found ≡ refusal_of (rules_of (planned_in h numbers) g.given)) where
     judged : found ≡ refusal_of (rules_in a)
-    unfolding gathered_of
     judged = k ∙ (λ i. refusal_of (rules_of (made i) (e i).given)) ∙ ap refusal_of (rules-held serial a)
 
     pub finish-refused : (found.number ≡ 0 → ⊥) → finish_of serial a ≡ refused found.number found.place
@@ -276,41 +306,65 @@ module _ (serial : ℕ) (g : Gathered) (h : Head) (fits : h ≡ head_from serial
         let p = rules-passed _ _ _ _ _ _ o in
         (good-is (rules_in a) o, all_held serial a p.least p.most (given-most _ _ _ p.most p.courses))
 
-    pub finish-good : found.number ≡ 0 → record { refusal = 0; place = 0; head = h; progress = first_progress } ≡ entered_of (loaded_of (finish_of serial a))
-    unfolding finish_of loaded_of
+    pub finish-good : found.number ≡ 0 → ◌≡◌ {A = Result Head Refusal} (Ok h) (head_in (finish_of serial a))
+    unfolding finish_of head_in
     finish-good z =
         let m = made-plan z in
-        ap (λ (q : Head). record { refusal = 0; place = 0; head = q; progress = first_progress }) (head-made ∙ ap (λ (p : Plan). p.head) m.1)
-        ∙ ap (λ (o : Outcome State). entered_of (loaded_of o)) (sym (then-good (rules_in a) done _ m.0))
+        ap (λ (q : Head). Ok q) (head-made ∙ ap (λ (p : Plan). p.head) m.1) ∙ ap head_in (sym (then-good (rules_in a) done _ m.0))
+
+-- ---- the head alone: which load it is of
+pub failed-head : (n : ℕ) (x : Refusal) → x ≡ refusal_of (check false n (good done)) → (o : Outcome State) → o ≡ refused n 0
+    → ◌≡◌ {A = Result Head Refusal} (Err x) (head_in o)
+unfolding refusal_of check head_in
+failed-head n x k o h = rw (k, h) refl
+
+-- an error that is handed on is the same
+pub handed_on : {A E : Type 0} (r : Result A E) (x : E) → IsErrAnd r (λ e. e ≡ x) → r ≡ Err x
+handed_on (Ok a) x h = absurd h
+handed_on (Err e) x h = ap (λ (y : _). Err y) h
+
+pub head-refused : (o : Outcome State) (e : Refusal) → o ≡ refused e.number e.place → ◌≡◌ {A = Result Head Refusal} (Err e) (head_in o)
+unfolding head_in
+head-refused o e h = rw h refl
+
+pub refused-head : (o : Outcome State) (e : Refusal) → head_in o ≡ Err e → o ≡ refused e.number e.place
+unfolding head_in
+refused-head (good s) e h = cc
+refused-head (refused n p) e h = let k : record { number = n; place = p } ≡ e = cc in ap (λ (x : Refusal). refused x.number x.place) k
+
+pub good-head : (o : Outcome State) (h : Head) → head_in o ≡ Ok h → (s : State) × ((o ≡ good s) × (h ≡ s.plan.head))
+unfolding head_in
+good-head (good s) h e = (s, (refl, let k : s.plan.head ≡ h = cc in sym k))
+good-head (refused n p) h e = cc
 
 -- ---- what `load` gets from the records
-module _ (r : ℕ) (f : List ℕ) (v : ℕ) (ev : v ≡ version_of f) (g : Gathered) (eg : g ≡ gathered_of (gather_from r v f header_length no_parts)) where
-  parts_is : gather_from r v f header_length no_parts ≡ parts_of r f
-  unfolding gather_from parts_of records_of
-  parts_is = rw ev
-
-  pub gather-stops : (g.refusal ≡ 0 → ⊥) → parts_of r f ≡ refused g.refusal g.place
-  gather-stops h =
-      sym parts_is ∙ gathered-refused _ (λ z. h (ap (λ (x : Gathered). x.refusal) eg ∙ z)) ∙ (λ i. refused (sym eg i).refusal (sym eg i).place)
-
-  pub record Gives : Type 0 where
+module _ (r : ℕ) (f : List ℕ) (v : ℕ) where
+  pub record Gives (g : Gathered) : Type 0 where
     pub parts : Parts
     pub ranged : InRange parts
-    pub held : g ≡ gathered_of (good parts)
+    pub held : g ≡ answer_of parts
     pub found : gather_from r v f header_length no_parts ≡ good parts
     pub are : parts_of r f ≡ good parts
 
-  pub gather-gives : g.refusal ≡ 0 → Gives
-  unfolding gather_from
-  gather-gives z =
-      let x = gathered-good _ (gather-proper r v (walk (drop header_length f)) header_length no_parts) (ap (λ (y : Gathered). y.refusal) (sym eg) ∙ z) in
-      record {
-        parts = x.0;
-        ranged = gather-ranged r v (walk (drop header_length f)) header_length no_parts x.0 none-ranged x.1;
-        held = eg ∙ ap gathered_of x.1;
-        found = x.1;
-        are = sym parts_is ∙ x.1;
-      }
+  module _ (ev : v ≡ version_of f) where
+    parts_is : gather_from r v f header_length no_parts ≡ parts_of r f
+    unfolding gather_from parts_of records_of
+    parts_is = rw ev
+
+    pub gather-stops : (e : Refusal) → gathered_of (gather_from r v f header_length no_parts) ≡ Err e → parts_of r f ≡ refused e.number e.place
+    gather-stops e h = sym parts_is ∙ gathered-refused _ e h
+
+    pub gather-gives : (g : Gathered) → gathered_of (gather_from r v f header_length no_parts) ≡ Ok g → Gives g
+    unfolding gather_from
+    gather-gives g h =
+        let x = gathered-good _ g h in
+        record {
+          parts = x.0;
+          ranged = gather-ranged r v (walk (drop header_length f)) header_length no_parts x.0 none-ranged x.1.0;
+          held = x.1.1;
+          found = x.1.0;
+          are = sym parts_is ∙ x.1.0;
+        }
 
 -- ---- the state that is loaded is the start of a plan of lists
 pub finish-makes : (serial : ℕ) (a : Parts) (s : State) → finish_of serial a ≡ good s → s ≡ start_of (plan_of serial a.radius a.points a.courses)
@@ -367,32 +421,37 @@ loaded-filled r f (refused n p) e = empty-filled
 
 -- ---- a load into lent numbers
 module _ (r : ℕ) (f : List ℕ) where
-  pub value-refused : {x : Entered} (n p : ℕ) → load_of r f ≡ refused n p → x ≡ entered_of (loaded_of (refused n p)) → x ≡ entered_of (loaded_of (load_of r f))
-  value-refused n p e k = k ∙ ap (λ (o : Outcome State). entered_of (loaded_of o)) (sym e)
-
   pub numbers-refused : {numbers : List ℤ} (n p : ℕ) → load_of r f ≡ refused n p → (s : State) → load_of r f ≡ good s → numbers ≡ numbers_of s.plan
   numbers-refused n p e s g = never-good (sym e ∙ g)
-
-  pub value-finished : {x : Entered} (serial : ℕ) (a : Parts) → load_of r f ≡ finish_of serial a → x ≡ entered_of (loaded_of (finish_of serial a)) → x ≡ entered_of (loaded_of (load_of r f))
-  value-finished serial a e k = k ∙ ap (λ (o : Outcome State). entered_of (loaded_of o)) (sym e)
 
   pub numbers-finished : {numbers : List ℤ} (serial : ℕ) (a : Parts) → load_of r f ≡ finish_of serial a → numbers ≡ numbers_in a → (s : State) → load_of r f ≡ good s → numbers ≡ numbers_of s.plan
   numbers-finished serial a e n s g = n ∙ ap (λ (t : State). numbers_of t.plan) (sym (finish-makes serial a s (sym e ∙ g)))
 
-module _ (r : ℕ) (f : List ℕ) (x : Entered) (reads : x ≡ entered_of (loaded_of (load_of r f))) where
-  refusal-read : x.refusal ≡ (loaded_of (load_of r f)).refusal
-  refusal-read = ap (λ (y : Entered). y.refusal) reads
+  -- what is loaded is at its start
+  pub entered-good : (s : State) → load_of r f ≡ good s → {h : Head} {q : Progress} → h ≡ s.plan.head → q ≡ first_progress
+      → record { refusal = 0; place = 0; head = h; progress = q } ≡ entered_of (loaded_of (load_of r f))
+  unfolding loaded_of
+  entered-good s g k l =
+      let x = load-steps r f s g in
+      let p : first_progress ≡ s.progress = ap (λ (t : State). t.progress) (sym (finish-makes (serial_of f) x.settled s x.finishes)) in
+      (λ i. record { refusal = 0; place = 0; head = k i; progress = (l ∙ p) i }) ∙ ap (λ (o : Outcome State). entered_of (loaded_of o)) (sym g)
+
+  pub entered-refused : (e : Refusal) → load_of r f ≡ refused e.number e.place → entered_of (refused_of e) ≡ entered_of (loaded_of (load_of r f))
+  unfolding loaded_of
+  entered-refused e g = ap (λ (o : Outcome State). entered_of (loaded_of o)) (sym g)
+
+  pub numbers-good : {numbers : List ℤ} (s : State) → load_of r f ≡ good s → numbers ≡ numbers_of s.plan → numbers ≡ numbers_of (loaded_of (load_of r f)).state.plan
+  unfolding loaded_of
+  numbers-good s g n = n ∙ ap (λ (o : Outcome State). numbers_of (loaded_of o).state.plan) (sym g)
 
   -- zeros are the numbers of the empty state
-  pub cleared : (x.refusal ≡ 0 → ⊥) → (old zeros : List ℤ) → zeros ≡ zeroed old → length zeros ≡ plan_numbers
+  pub cleared : (n p : ℕ) → load_of r f ≡ refused n p → (old zeros : List ℤ) → zeros ≡ zeroed old → length zeros ≡ plan_numbers
       → zeros ≡ numbers_of (loaded_of (load_of r f)).state.plan
-  cleared h old zeros e l =
+  unfolding loaded_of
+  cleared n p g old zeros e l =
       e
       ∙ zeros_of old plan_numbers (sym (zeros-length old) ∙ ap length (sym e) ∙ l)
-      ∙ ap (λ (t : State). numbers_of t.plan) (sym (loaded-refused r f (loaded_of (load_of r f)) refl (λ z. h (refusal-read ∙ z))).1)
-
-  pub entered-good : x.refusal ≡ 0 → load_of r f ≡ good (loaded_of (load_of r f)).state
-  entered-good h = loaded-good r f (loaded_of (load_of r f)) refl (sym refusal-read ∙ h)
+      ∙ ap (λ (o : Outcome State). numbers_of (loaded_of o).state.plan) (sym g)
 
 -- ---- a state by value: its blocks, one by one
 pub block-copied : (from : ℕ) (numbers old new : List ℤ) → from + most_points ≤ length numbers → length old ≡ most_points

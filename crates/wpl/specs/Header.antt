@@ -1,8 +1,9 @@
 -- Clauses 1.6, 3.2, 6.1, 7.1 to 7.5: the header of a file, and refusals 1 to 5. Assumes nothing.
-use Rattle.std.specs.Prelude.{Bool, List, ℕ, ◌-◌, eqb, leb, ltb, length, get_or}
+use Rattle.std.specs.Prelude.{Bool, List, ℕ, ◌-◌, eqb, leb, ltb, length, get_or, Result, Ok, Err}
 use Rattle.conditions.specs.Both.{both}
 use Rattle.refusals.specs.Numbers.{file_too_short, no_mark, no_version, no_serial, wrong_area}
-use Rattle.refusals.specs.Outcome.{Outcome, good, check}
+use Rattle.refusals.specs.declared.Refusal.{Refusal}
+use Rattle.refusals.specs.Outcome.{Outcome, good, refused, check}
 use Rattle.refusals.specs.Sweep.{Done, done}
 use Rattle.records.specs.Numbers.{u16_at, u32_at}
 use Rattle.records.specs.Gather.{header_length}
@@ -35,3 +36,8 @@ header_of f =
     (check (ltb 0 (version_of f)) no_version
     (check (ltb 0 (serial_of f)) no_serial
     (check (area_fits f) wrong_area (good done)))))
+
+-- as the code answers it; for proofs alone
+unfoldable pub passed_of : Outcome Done → Result (Unit {0}) Refusal
+passed_of (good d) = Ok tt
+passed_of (refused number place) = Err (record { number = number; place = place })

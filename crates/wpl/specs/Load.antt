@@ -1,6 +1,7 @@
 -- Clauses 3.4, 5.6, 6.1, 7.3, 8.5, 15.1, 15.2, 18.8: a load, in the order of its checks. Assumes nothing.
-use Rattle.std.specs.Prelude.{List, ℕ, length, drop}
+use Rattle.std.specs.Prelude.{List, ℕ, length, drop, Result, Ok, Err}
 use Rattle.conditions.specs.Between.{between}
+use Rattle.refusals.specs.declared.Refusal.{Refusal}
 use Rattle.refusals.specs.Numbers.{no_version}
 use Rattle.refusals.specs.Outcome.{Outcome, good, refused, check, and_then}
 use Rattle.refusals.specs.Sweep.{Done}
@@ -52,6 +53,15 @@ load_of r f = check (between 1 newest r) no_version (and_then (header_of f) (λ 
 unfoldable pub loaded_of : Outcome State → Loaded
 loaded_of (good s) = record { refusal = 0; place = 0; state = s }
 loaded_of (refused number place) = record { refusal = number; place = place; state = empty_state }
+
+-- the same of a refusal; for proofs alone
+abbrev pub refused_of : Refusal → Loaded
+refused_of r = record { refusal = r.number; place = r.place; state = empty_state }
+
+-- what the code hands on before it: the head alone; for proofs alone
+unfoldable pub head_in : Outcome State → Result Head Refusal
+head_in (good s) = Ok s.plan.head
+head_in (refused number place) = Err (record { number = number; place = place })
 
 -- what the records give beside the numbers; for proofs alone
 abbrev pub head_from : ℕ → Gathered → Head

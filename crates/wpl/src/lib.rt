@@ -1,9 +1,10 @@
 // Plan files: load, write, and the notes of a file (docs/RULES.md, sections 5 and 6).
 #![tactic(auto)]
 
-ghost use Rattle.std.specs.Prelude.{◌≡◌, ◌+◌, ◌≤◌, length, take, drop};
+ghost use Rattle.std.specs.Prelude.{◌≡◌, ◌+◌, ◌≤◌, [], length, take, drop, unwrap_or};
+ghost use Rattle.std.specs.Option.{option_copied};
 ghost use Rattle.conditions.specs.All.{All};
-ghost use Rattle.refusals.specs.Outcome.{good, refused, refusal_of};
+ghost use Rattle.refusals.specs.Outcome.{good, refusal_of};
 ghost use Rattle.plan.specs.Limits.{most_points};
 ghost use Rattle.plan.specs.Places.{seen, plan_numbers, numbers_of, Filled};
 ghost use Rattle.plan.specs.Stands.{Long};
@@ -11,14 +12,14 @@ ghost use Rattle.manager.specs.declared.State.{State};
 ghost use Rattle.manager.specs.State.{viewed};
 ghost use Rattle.records.specs.Kinds.{Parts, no_parts};
 ghost use Rattle.records.specs.Gather.{header_length, InRange};
-ghost use Rattle.records.specs.Held.{gathered_of, numbers_in};
-ghost use Rattle.wpl.specs.Header.{marked_of, area_fits, header_of};
-ghost use Rattle.wpl.specs.Load.{records_of, finish_of, load_of, loaded_of, head_from, entered_of};
+ghost use Rattle.records.specs.Held.{answer_of, numbers_in};
+ghost use Rattle.wpl.specs.Header.{marked_of, area_fits, header_of, passed_of};
+ghost use Rattle.wpl.specs.Load.{records_of, finish_of, load_of, loaded_of, refused_of, head_from, head_in, entered_of};
 ghost use Rattle.wpl.specs.Write.{carried_since, write_of, written_of, buffer_of};
 ghost use Rattle.wpl.specs.RoundTrip.{RoundTrip, EveryReader};
 ghost use Rattle.wpl.specs.Starts.{Starts};
 ghost use Rattle.wpl.specs.Order.{Refused, load_order, write_order};
-ghost use Rattle.wpl.specs.Note.{wanted_of, left_of, note_in, note_of, noted_of, notes_in, notes_of, Numbered, SpanFits, part_of};
+ghost use Rattle.wpl.specs.Note.{note_in, note_of, notes_in, notes_of, Numbered};
 
 use manager::{Progress, State};
 use plan::{Head, Mode, Plan};
@@ -37,7 +38,7 @@ const DOWNS_START: usize = plan::DOWN_BLOCK * plan::MOST_POINTS;
 
 const COURSES_START: usize = plan::COURSE_BLOCK * plan::MOST_POINTS;
 
-// A state, or a refusal with its place and the empty state.
+// A state, or a refusal with its place and the empty state: no Result, as `Starts` and rule 15.2 speak of the state of a refused load.
 #[derive(Clone, Copy)]
 pub struct Loaded {
     pub refusal: u8,
@@ -45,7 +46,7 @@ pub struct Loaded {
     pub state: State,
 }
 
-// A load without the numbers, which are lent: the head and the progress of the state.
+// A load without the numbers, which are lent: the head and the progress of the state. It is no Result, as Loaded is none.
 #[derive(Clone, Copy)]
 pub struct Entered {
     pub refusal: u8,
@@ -62,24 +63,15 @@ pub struct Written {
     pub length: usize,
 }
 
-// The bytes of a note in its file.
-#[derive(Clone, Copy)]
-enum Span {
-    At { start: usize, end: usize },
-    Nothing,
-}
+// The kind of notes.
+const NOTE: u8 = records::NOTE_ROW.kind;
 
 // Whether a file starts with the mark.
 fn marked(file: &[u8]) -> bool
     requires { header_length ≤ length file.now }
     ensures { result ≡ marked_of file.now }
 {
-    if file[0] == MARK[0] {
-        if file[1] == MARK[1] {
-            return file[2] == MARK[2];
-        }
-    }
-    false
+    file.starts_with(&MARK)
 }
 
 // Whether the area length is that of the bytes after the header, and not too long.
@@ -87,38 +79,35 @@ fn area_fits(file: &[u8]) -> bool
     requires { header_length ≤ length file.now }
     ensures { result ≡ area_fits file.now }
 {
-    let area = records::u16_at(file, AREA_OFFSET) as usize;
-    if area == file.len() - records::HEADER_LENGTH {
-        return area <= MOST_AREA;
-    }
-    false
+    let area = usize::from(records::u16_at(file, AREA_OFFSET));
+    area == file.len() - records::HEADER_LENGTH && area <= MOST_AREA
 }
 
 // Refusals 1 to 5.
-fn header(file: &[u8]) -> u8
-    ensures { refusal_of (header_of file.now) ≡ record { number = result; place = 0 } }
+fn header(file: &[u8]) -> Result<(), Refusal>
+    ensures { result ≡ passed_of (header_of file.now) }
 {
     if file.len() < records::HEADER_LENGTH {
-        return refusals::FILE_TOO_SHORT;
+        return Err(refusals::failed(refusals::FILE_TOO_SHORT));
     }
     if !marked(file) {
-        return refusals::NO_MARK;
+        return Err(refusals::failed(refusals::NO_MARK));
     }
     if records::u16_at(file, VERSION_OFFSET) == 0 {
-        return refusals::NO_VERSION;
+        return Err(refusals::failed(refusals::NO_VERSION));
     }
     if records::u32_at(file, SERIAL_OFFSET) == 0 {
-        return refusals::NO_SERIAL;
+        return Err(refusals::failed(refusals::NO_SERIAL));
     }
-    if area_fits(file) {
-        return 0;
+    if !area_fits(file) {
+        return Err(refusals::failed(refusals::WRONG_AREA));
     }
-    refusals::WRONG_AREA
+    Ok(())
 }
 
 // A refused load: the head and the progress of the empty state.
-fn refuse(refusal: u8, place: usize) -> Entered
-    ensures { result ≡ entered_of (loaded_of (refused refusal place)) }
+fn refuse(found: Refusal) -> Entered
+    ensures { result ≡ entered_of (refused_of found) }
 {
     let head = Head {
         serial: 0,
@@ -132,8 +121,8 @@ fn refuse(refusal: u8, place: usize) -> Entered
         finished: false,
     };
     Entered {
-        refusal,
-        place,
+        refusal: found.number,
+        place: found.place,
         head,
         progress,
     }
@@ -152,10 +141,10 @@ fn head_of(serial: u32, gathered: Gathered) -> Head
     }
 }
 
-// The plan that the records give, by its rules.
-fn finish(serial: u32, gathered: Gathered, numbers: &[i32]) -> Entered
-    requires { (a : Parts) × (InRange a × ((gathered ≡ gathered_of (good a)) × (numbers.now ≡ numbers_in a))) }
-    ensures { (a : Parts) → gathered ≡ gathered_of (good a) → numbers.now ≡ numbers_in a → result ≡ entered_of (loaded_of (finish_of serial a)) }
+// The head of the plan that the records give, by its rules.
+fn finish(serial: u32, gathered: Gathered, numbers: &[i32]) -> Result<Head, Refusal>
+    requires { (a : Parts) × (InRange a × ((gathered ≡ answer_of a) × (numbers.now ≡ numbers_in a))) }
+    ensures { (a : Parts) → gathered ≡ answer_of a → numbers.now ≡ numbers_in a → result ≡ head_in (finish_of serial a) }
 {
     let head = head_of(serial, gathered);
     let found = plan::rules(
@@ -167,37 +156,23 @@ fn finish(serial: u32, gathered: Gathered, numbers: &[i32]) -> Entered
         &numbers[COURSES_START..plan::NUMBERS],
     );
     if found.number != 0 {
-        return refuse(found.number, found.place);
+        return Err(found);
     }
-    Entered {
-        refusal: 0,
-        place: 0,
-        head,
-        progress: manager::first(),
-    }
+    Ok(head)
 }
 
-// A load into numbers that are zero, which a refused one may leave in any state.
-fn read_into(file: &[u8], reader: u32, numbers: &mut [i32]) -> Entered
+// A load into numbers that are zero, which a refused one may leave in any state: the head of the plan.
+fn read_into(file: &[u8], reader: u32, numbers: &mut [i32]) -> Result<Head, Refusal>
     requires { numbers.old ≡ numbers_in no_parts }
-    ensures value { result ≡ entered_of (loaded_of (load_of reader file.now)) }
+    ensures value { result ≡ head_in (load_of reader file.now) }
     ensures numbers_after { (s : State) → load_of reader file.now ≡ good s → numbers.new ≡ numbers_of s.plan }
 {
-    if reader < 1 {
-        return refuse(refusals::NO_VERSION, 0);
+    if !(1..=NEWEST).contains(&reader) {
+        return Err(refusals::failed(refusals::NO_VERSION));
     }
-    if NEWEST < reader {
-        return refuse(refusals::NO_VERSION, 0);
-    }
-    let number = header(file);
-    if number != 0 {
-        return refuse(number, 0);
-    }
+    header(file)?;
     let version = records::u16_at(file, VERSION_OFFSET);
-    let gathered = records::gather(file, reader, version, numbers);
-    if gathered.refusal != 0 {
-        return refuse(gathered.refusal, gathered.place);
-    }
+    let gathered = records::gather(file, reader, version, numbers)?;
     finish(records::u32_at(file, SERIAL_OFFSET), gathered, numbers)
 }
 
@@ -210,11 +185,18 @@ pub fn load_into(file: &[u8], reader: u32, numbers: &mut [i32]) -> Entered
     ensures starts { Starts reader file.now }
 {
     buffers::clear(numbers);
-    let entered = read_into(file, reader, numbers);
-    if entered.refusal != 0 {
-        buffers::clear(numbers);
+    match read_into(file, reader, numbers) {
+        Ok(head) => Entered {
+            refusal: 0,
+            place: 0,
+            head,
+            progress: manager::first(),
+        },
+        Err(found) => {
+            buffers::clear(numbers);
+            refuse(found)
+        }
     }
-    entered
 }
 
 // As many numbers from a place on as a plan has of one kind.
@@ -377,51 +359,22 @@ pub fn write(state: State, version: u32, file: &mut [u8]) -> Written
     )
 }
 
-// Whether a record is the note that is looked for, `left` notes on.
-fn wanted(kind: u8, left: usize) -> bool
-    ensures { result ≡ wanted_of kind left }
+// The bytes of a note, where there is one.
+fn find_note(file: &[u8], number: usize) -> Option<&[u8]>
+    ensures { unwrap_or (option_copied result) [] ≡ note_in number (records_of file.now) }
 {
-    if kind == records::NOTE_ROW.kind {
-        return left == 1;
-    }
-    false
-}
-
-// How many notes on it is after a record that is not the one.
-fn left_after(kind: u8, left: usize) -> usize
-    ensures { result ≡ left_of kind left }
-{
-    if kind == records::NOTE_ROW.kind {
-        if left == 0 {
-            return 0;
-        }
-        return left - 1;
-    }
-    left
-}
-
-// Where a note's bytes are.
-fn find_note(file: &[u8], number: usize) -> Span
-    ensures { (part_of result file.now ≡ note_in number (records_of file.now)) × SpanFits result (length file.now) }
-{
-    let mut at: usize = records::HEADER_LENGTH;
+    let mut at = records::HEADER_LENGTH;
     let mut left = number;
-    while at < file.len() {
-        let to = records::end_at(file, at);
-        if to == 0 {
-            return Span::Nothing;
+    while let Some(to) = records::end_at(file, at) {
+        if file[at] == NOTE {
+            if left == 1 {
+                return Some(&file[at + records::BODY_OFFSET..to]);
+            }
+            left = left.saturating_sub(1);
         }
-        let kind = file[at];
-        if wanted(kind, left) {
-            return Span::At {
-                start: at + records::BODY_OFFSET,
-                end: to,
-            };
-        }
-        left = left_after(kind, left);
         at = to;
     }
-    Span::Nothing
+    None
 }
 
 // The bytes of a note, by its number from 1, or no bytes where the newest reader refuses the file or there is no such note.
@@ -432,34 +385,17 @@ pub fn note(file: &[u8], number: usize) -> &[u8]
     if found.number != 0 {
         return &file[..0];
     }
-    match find_note(file, number) {
-        Span::At { start, end } => &file[start..end],
-        Span::Nothing => &file[..0],
-    }
-}
-
-// How many notes a record is: 1 or 0.
-fn noted(kind: u8) -> usize
-    ensures { result ≡ noted_of kind }
-{
-    if kind != records::NOTE_ROW.kind {
-        return 0;
-    }
-    1
+    find_note(file, number).unwrap_or(&[])
 }
 
 // The notes among a file's records, up to one that is cut short.
 fn count_notes(file: &[u8]) -> usize
     ensures { result ≡ notes_in (records_of file.now) }
 {
-    let mut at: usize = records::HEADER_LENGTH;
-    let mut count: usize = 0;
-    while at < file.len() {
-        let to = records::end_at(file, at);
-        if to == 0 {
-            return count;
-        }
-        count += noted(file[at]);
+    let mut at = records::HEADER_LENGTH;
+    let mut count = 0;
+    while let Some(to) = records::end_at(file, at) {
+        count += usize::from(file[at] == NOTE);
         at = to;
     }
     count

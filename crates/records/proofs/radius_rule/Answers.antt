@@ -1,19 +1,20 @@
 -- `radius_rule` takes a radius that is in range, the first, and before all points; each test that fails is wrong. Assumes nothing.
 use mathlib.Core.Path.{sym, ◌∙◌}
-use Rattle.records.proofs.RuleLaws.{radius-taken, radius-late, radius-twice, radius-range}
+use Rattle.records.proofs.RuleLaws.{in-range, radius-taken, radius-late, radius-twice, radius-range}
 use Rattle.records.proofs.radius_rule.Goals as goal
+use Rattle.records.proofs.radius_rule.Goals.{else-in_range-via-then-in_range+then-before-eq0+else-before-eq0-2, else-in_range-via-then-in_range+else-before-eq0, else-in_range-via-else-in_range}
 
 pub returns-then-before-eq0-2 : goal.returns-then-before-eq0-2
 returns-then-before-eq0-2 c a e =
-    radius-taken _ a _ e _ c.u16_at-radius.ensures (sym c.between.ensures ∙ c.if-between.true) c.if-before-eq0.true c.if-before-eq0-2.true
+    let t = sym (in-range _ _ _ _ c.new.ensures.start c.new.ensures.end c.new.ensures.exhausted) ∙ sym c.contains-in_range.ensures.value in
+    radius-taken _ a _ e _ c.u16_at-radius.ensures (t ∙ c.if-in_range.true) c.if-before-eq0.true c.if-before-eq0-2.true
 
-pub returns-else-before-eq0-2 : goal.returns-else-before-eq0-2
-returns-else-before-eq0-2 c a e =
-    radius-late _ a _ e _ c.u16_at-radius.ensures (sym c.between.ensures ∙ c.if-between.true) c.if-before-eq0.true c.if-before-eq0-2.false
-
-pub returns-else-before-eq0 : goal.returns-else-before-eq0
-returns-else-before-eq0 c a e =
-    radius-twice _ a _ e _ c.u16_at-radius.ensures (sym c.between.ensures ∙ c.if-between.true) c.if-before-eq0.false
-
-pub returns-else-between : goal.returns-else-between
-returns-else-between c a e = radius-range _ a _ e _ c.u16_at-radius.ensures (sym c.between.ensures ∙ c.if-between.false)
+pub returns : goal.returns
+returns c a e =
+    let t = sym (in-range _ _ _ _ c.new.ensures.start c.new.ensures.end c.new.ensures.exhausted) ∙ sym c.contains-in_range.ensures.value in
+    let read = c.u16_at-radius.ensures in
+    elim c.else-in_range.branch [
+      | else-in_range-via-then-in_range+then-before-eq0+else-before-eq0-2 w ↦ radius-late _ a _ e _ read (t ∙ w.if-in_range.true) w.if-before-eq0.true w.if-before-eq0-2.false
+      | else-in_range-via-then-in_range+else-before-eq0 w ↦ radius-twice _ a _ e _ read (t ∙ w.if-in_range.true) w.if-before-eq0.false
+      | else-in_range-via-else-in_range w ↦ radius-range _ a _ e _ read (t ∙ w.if-in_range.false)
+    ]

@@ -1,24 +1,16 @@
--- `row_of` finds the row of a kind. The constant's list is the definition's table by computing. The loop's invariant: the rows from i on give the
--- row that the whole table gives. Assumes nothing.
-use mathlib.Core.Path.{refl, sym, ◌∙◌}
-use Rattle.records.specs.Kinds.{table, row_of}
-use Rattle.records.proofs.KindLaws.{row-past, row-hit, row_next}
+-- `row_of` finds the row of a kind in the constant, which is the table of the definitions. Assumes nothing.
+use mathlib.Core.Path.{◌∙◌}
+use lib.Dec.{eqb}
+use Rattle.std.proofs.Common.{rules, tests}
+use Rattle.std.proofs.lemmas.Iterator.{YieldsList-from_slice}
+use Rattle.std.proofs.lemmas.Iterator.Search.{find_from_yields_List}
+use Rattle.records.specs.Kinds.{table}
+use Rattle.records.proofs.KindLaws.{found-row}
 use Rattle.records.proofs.row_of.Goals as goal
-
-pub loop-i-init : goal.loop-i-init
-unfolding row_of
-loop-i-init c = refl
-
-pub returns-then-kind-row : goal.returns-then-kind-row
-unfolding table
-returns-then-kind-row c =
-    sym (row-hit c.args.kind c.loop-i.i c.loop-i-test.true c.if-kind-row.true) ∙ c.loop-i.invariant
-
-pub loop-i-preserved : goal.loop-i-preserved
-unfolding table
-loop-i-preserved c =
-    sym (row_next c.args.kind c.loop-i.i c.loop-i-test.true c.if-kind-row.false) ∙ c.loop-i.invariant
 
 pub returns : goal.returns
 unfolding table
-returns c = sym (row-past c.args.kind c.loop-i.i c.loop-i-test.false) ∙ c.loop-i.invariant
+returns c =
+    c.copied.ensures
+    ∙ find_from_yields_List (λ e. eqb e.kind c.args.kind) _ _ c.find.result c.find.ensures.ran (YieldsList-from_slice table cc) (λ x b q k. search (rules, tests))
+    ∙ found-row c.args.kind

@@ -1,4 +1,4 @@
--- What the loops of `count_notes` keep, and what falls with each round. Assumes nothing.
+-- What the loop of `count_notes` keeps, and what falls with each round. Assumes nothing.
 use mathlib.Core.Path.{◌≡◌}
 use Prim.Native.Nat.{◌+◌, ◌-◌}
 use lib.ListN.{length, drop}
@@ -7,8 +7,8 @@ use Rattle.records.specs.Gather.{header_length}
 use Rattle.wpl.specs.Note.{notes_in}
 use Rattle.wpl.proofs.count_notes.Given as goal
 
-abbrev pub invariant-loop-at : goal.invariant-loop-at
-invariant-loop-at l = l.count + notes_in (walk (drop l.at l.file)) ≡ notes_in (walk (drop header_length l.file))
+abbrev pub invariant-loop-to : goal.invariant-loop-to
+invariant-loop-to l = l.count + notes_in (walk (drop l.at l.file)) ≡ notes_in (walk (drop header_length l.file))
 
-abbrev pub decreases-loop-at : goal.decreases-loop-at
-decreases-loop-at l = length l.file - l.at
+abbrev pub decreases-loop-to : goal.decreases-loop-to
+decreases-loop-to l = length l.file - l.at

@@ -5,41 +5,56 @@ use Prim.Native.Nat.{ℕ}
 use native.Mathlib.Omega.{arith}
 use lib.ListN.{drop}
 use Rattle.records.specs.Walk.{walk}
-use Rattle.records.proofs.StepLaws.{whole, cut-past}
+use Rattle.records.proofs.StepLaws.{Whole, whole}
 use Rattle.wpl.specs.Load.{records_of}
 use Rattle.wpl.specs.Note.{note_in}
-use Rattle.wpl.proofs.NoteLaws.{note-end, note-cut, note-found, note-next}
+use Rattle.wpl.proofs.NoteLaws.{note-stop, note-found, note-passed, other-passed}
 use Rattle.wpl.proofs.find_note.Goals as goal
+use Rattle.wpl.proofs.find_note.Goals.{In-Some}
 
-pub loop-at-init : goal.loop-at-init
+-- the record that is not cut short
+here : (c : In-Some) → Whole c.args.file.now c.loop-to.at c.in-Some.to
+here c = whole _ _ _ (sym c.end_at.ensures ∙ c.in-Some.is)
+
+pub loop-to-init : goal.loop-to-init
 unfolding records_of
-loop-at-init c = refl
+loop-to-init c = refl
 
-pub returns-then-to-eq0 : goal.returns-then-to-eq0
-returns-then-to-eq0 c =
-    (sym (note-cut _ _ _ c.loop-at-test.true (cut-past _ _ (sym c.end_at-to.ensures ∙ c.if-to-eq0.true))) ∙ c.loop-at.invariant, tt)
+pub bounds-file-at : goal.bounds-file-at
+bounds-file-at c = let w = here (goal.at.bounds-file-at c).In-Some in omega (arith, w.further, w.inside)
 
-pub overflow_add-result : goal.overflow_add-result
-overflow_add-result c =
-    let w = whole _ _ _ c.end_at-to.ensures c.if-to-eq0.false in
+pub slice_bounds-result-count : goal.slice_bounds-result-count
+slice_bounds-result-count c = (here (goal.at.slice_bounds-result-count c).In-Some).further
+
+pub slice_bounds-result-start : goal.slice_bounds-result-start
+slice_bounds-result-start c = let w = here (goal.at.slice_bounds-result-start c).In-Some in omega (arith, w.further)
+
+pub slice_bounds-result-end : goal.slice_bounds-result-end
+slice_bounds-result-end c = let w = here (goal.at.slice_bounds-result-end c).In-Some in omega (arith, w.inside)
+
+pub returns-then-left-eq1 : goal.returns-then-left-eq1
+returns-then-left-eq1 c =
+    sym (note-found _ _ _ _ (here (goal.at.returns-then-left-eq1 c).In-Some) c.if-file-at.true c.if-left-eq1.true) ∙ c.loop-to.invariant
+
+pub loop-to-smaller-else-left-eq1 : goal.loop-to-smaller-else-left-eq1
+loop-to-smaller-else-left-eq1 c =
+    let w = here (goal.at.loop-to-smaller-else-left-eq1 c).In-Some in
     omega (arith, w.further, w.inside)
 
-pub returns-then-wanted : goal.returns-then-wanted
-returns-then-wanted c =
-    let w = whole _ _ _ c.end_at-to.ensures c.if-to-eq0.false in
-    (sym (note-found _ _ _ _ w (sym c.wanted.ensures ∙ c.if-wanted.true)) ∙ c.loop-at.invariant, (w.further, w.inside))
+pub loop-to-preserved-else-left-eq1 : goal.loop-to-preserved-else-left-eq1
+loop-to-preserved-else-left-eq1 c =
+    let w = here (goal.at.loop-to-preserved-else-left-eq1 c).In-Some in
+    ap (λ (n : ℕ). note_in n (walk (drop c.in-Some.to c.args.file.now))) c.saturating_sub-left.ensures
+    ∙ sym (note-passed _ _ _ _ w c.if-file-at.true c.if-left-eq1.false) ∙ c.loop-to.invariant
 
-pub loop-at-smaller : goal.loop-at-smaller
-loop-at-smaller c =
-    let w = whole _ _ _ c.end_at-to.ensures c.if-to-eq0.false in
+pub loop-to-smaller : goal.loop-to-smaller
+loop-to-smaller c =
+    let w = here (goal.at.loop-to-smaller c).In-Some in
     omega (arith, w.further, w.inside)
 
-pub loop-at-preserved : goal.loop-at-preserved
-loop-at-preserved c =
-    let w = whole _ _ _ c.end_at-to.ensures c.if-to-eq0.false in
-    let f = c.args.file.now in
-    ap (λ (n : ℕ). note_in n (walk (drop c.end_at-to.result f))) c.left_after-left.ensures
-    ∙ sym (note-next _ _ _ _ w (sym c.wanted.ensures ∙ c.if-wanted.false)) ∙ c.loop-at.invariant
+pub loop-to-preserved : goal.loop-to-preserved
+loop-to-preserved c =
+    sym (other-passed _ _ _ _ (here (goal.at.loop-to-preserved c).In-Some) c.if-file-at.false) ∙ c.loop-to.invariant
 
 pub returns : goal.returns
-returns c = (sym (note-end _ _ _ c.loop-at-test.false) ∙ c.loop-at.invariant, tt)
+returns c = sym (note-stop _ _ _ (sym c.end_at.ensures ∙ c.in_default.is)) ∙ c.loop-to.invariant

@@ -1,13 +1,10 @@
 -- `finish` asks the plan's rules of the plan in its numbers. Assumes nothing.
-use mathlib.Core.Path.{◌≡◌, sym, ap, ◌∙◌}
+use mathlib.Core.Path.{◌≡◌, ap, ◌∙◌}
 use lib.ListN.{length}
-use Rattle.refusals.specs.Outcome.{Outcome}
 use Rattle.plan.specs.Places.{plan_numbers}
 use Rattle.plan.proofs.BlockLaws.{loaded-length}
-use Rattle.manager.specs.declared.Progress.{Progress}
-use Rattle.manager.specs.declared.State.{State}
-use Rattle.wpl.specs.Load.{loaded_of, entered_of}
-use Rattle.wpl.proofs.LoadLaws.{planned-long, made-bounded, finish-refused, finish-good}
+use Rattle.wpl.specs.Load.{finish_of}
+use Rattle.wpl.proofs.LoadLaws.{planned-long, made-bounded, finish-refused, finish-good, head-refused}
 use borrow.Author.Rules.{rules}
 use Rattle.wpl.proofs.finish.Goals as goal
 use Rattle.wpl.proofs.finish.Goals.{Start}
@@ -38,11 +35,9 @@ rules-found-requires c =
 
 pub returns-then-found-ne0 : goal.returns-then-found-ne0
 returns-then-found-ne0 c = λ a e n.
-    c.refuse.ensures
-    ∙ ap (λ (o : Outcome State). entered_of (loaded_of o))
-    (sym (finish-refused _ c.args.gathered _ c.head_of-head.ensures _ a e n _ c.rules-found.ensures c.if-found-ne0.true))
+    head-refused (finish_of c.args.serial a) c.rules-found.result
+    (finish-refused _ c.args.gathered _ c.head_of-head.ensures _ a e n _ c.rules-found.ensures c.if-found-ne0.true)
 
 pub returns : goal.returns
 returns c = λ a e n.
-    ap (λ (q : Progress). record { refusal = 0; place = 0; head = c.head_of-head.result; progress = q }) c.first.ensures.0
-    ∙ finish-good _ c.args.gathered _ c.head_of-head.ensures _ a e n _ c.rules-found.ensures c.if-found-ne0.false
+    finish-good _ c.args.gathered _ c.head_of-head.ensures _ a e n _ c.rules-found.ensures c.if-found-ne0.false

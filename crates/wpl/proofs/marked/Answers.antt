@@ -1,18 +1,8 @@
--- `marked` compares three bytes. Assumes nothing.
-use mathlib.Core.Path.{sym, ◌∙◌}
-use borrow.Author.Tests.{eq-eqb, ne_eqb}
-use Rattle.conditions.proofs.Bools.{both-on, both-off}
-use Rattle.wpl.specs.Header.{marked_of}
+-- `marked` compares the file's first bytes with the mark. Assumes nothing.
+use mathlib.Core.Path.{◌∙◌}
+use native.Mathlib.Omega.{arith}
+use Rattle.wpl.proofs.LoadLaws.{mark_first}
 use Rattle.wpl.proofs.marked.Goals as goal
 
-pub returns-then-file-2 : goal.returns-then-file-2
-unfolding marked_of
-returns-then-file-2 c = sym (both-on _ _ (eq-eqb _ _ c.if-file.true) ∙ both-on _ _ (eq-eqb _ _ c.if-file-2.true))
-
-pub returns-else-file-2 : goal.returns-else-file-2
-unfolding marked_of
-returns-else-file-2 c = sym (both-on _ _ (eq-eqb _ _ c.if-file.true) ∙ both-off _ _ (ne_eqb _ _ c.if-file-2.false))
-
-pub returns-else-file : goal.returns-else-file
-unfolding marked_of
-returns-else-file c = sym (both-off _ _ (ne_eqb _ _ c.if-file.false))
+pub returns : goal.returns
+returns c = c.starts_with.ensures.value ∙ mark_first c.args.file.now (omega (arith, c.requires))

@@ -1,48 +1,84 @@
 -- `read_into` asks the reader's version, the header, the records and the plan's rules in their order. Assumes nothing.
-use mathlib.Core.Path.{ap, ◌∙◌}
+use mathlib.Core.Path.{◌≡◌, sym, ap, ◌∙◌}
+use mathlib.Core.Bool.{true}
 use Prim.Native.Nat.{ℕ}
-use native.Mathlib.Omega.{arith}
-use Rattle.wpl.specs.Header.{version_of, serial_of}
-use Rattle.wpl.specs.Load.{finish_of, loaded_of, entered_of}
-use Rattle.wpl.proofs.LoadLaws.{reader-low, reader-high, header-stops, records-stop, records-give, gather-stops, gather-gives, value-refused, numbers-refused, value-finished, numbers-finished}
+use Rattle.refusals.specs.Outcome.{good}
+use Rattle.refusals.specs.Sweep.{done}
+use Rattle.conditions.specs.Between.{between}
+use Rattle.records.proofs.RuleLaws.{in-range}
+use Rattle.wpl.specs.Header.{version_of, serial_of, header_of}
+use Rattle.wpl.specs.Load.{finish_of, head_in}
+use Rattle.wpl.proofs.LoadLaws.{reader-wrong, header-stops, records-stop, records-give, gather-stops, Gives, gather-gives, numbers-refused, numbers-finished, failed-head, handed_on, head-refused, passed-good, passed-refused}
 use Rattle.wpl.proofs.read_into.Goals as goal
+use Rattle.wpl.proofs.read_into.Goals.{Else-not-contains, In_ok-header, In_ok-gathered}
 
-pub returns-then-reader-lt1 : goal.returns-then-reader-lt1
-returns-then-reader-lt1 c =
-    let e = reader-low _ c.args.file.now (omega (arith, c.if-reader-lt1.true)) in
-    record { value = value-refused _ _ _ _ e c.refuse.ensures; numbers_after = numbers-refused _ _ _ _ e }
+-- the reader's version is one of three
+served : (c : Else-not-contains) → between 1 3 c.args.reader ≡ true
+served c =
+    sym (in-range _ _ _ _ c.new.ensures.start c.new.ensures.end c.new.ensures.exhausted) ∙ sym c.contains.ensures.value ∙ c.if-not-contains.false
 
-pub returns-then-reader-gt-NEWEST : goal.returns-then-reader-gt-NEWEST
-returns-then-reader-gt-NEWEST c =
-    let e = reader-high _ c.args.file.now (omega (arith, c.if-reader-gt-NEWEST.true)) in
-    record { value = value-refused _ _ _ _ e c.refuse-then-reader-gt-NEWEST.ensures; numbers_after = numbers-refused _ _ _ _ e }
+-- the header has passed
+passed : (c : In_ok-header) → header_of c.args.file.now ≡ good done
+passed c = passed-good _ _ (sym c.header.ensures ∙ c.in_ok-header.was {u = tt})
 
-pub returns-then-number-ne0 : goal.returns-then-number-ne0
-returns-then-number-ne0 c =
-    let e = header-stops c.args.reader c.args.file.now (omega (arith, c.if-reader-lt1.false)) (omega (arith, c.if-reader-gt-NEWEST.false)) _ c.header-number.ensures c.if-number-ne0.true in
-    record { value = value-refused _ _ _ _ e c.refuse-then-number-ne0.ensures; numbers_after = numbers-refused _ _ _ _ e }
-
-pub returns-then-gathered-ne0 : goal.returns-then-gathered-ne0
+-- the records are gathered
+given : (c : In_ok-gathered) → Gives c.args.reader c.args.file.now c.u16_at-version.result c.in_ok-gathered.gathered
 unfolding version_of
-returns-then-gathered-ne0 c =
-    let e =
-    records-stop c.args.reader c.args.file.now (omega (arith, c.if-reader-lt1.false)) (omega (arith, c.if-reader-gt-NEWEST.false)) _ c.header-number.ensures c.if-number-ne0.false _ _
-    (gather-stops _ _ _ c.u16_at-version.ensures _ c.gather-gathered.ensures.value c.if-gathered-ne0.true) in
-    record { value = value-refused _ _ _ _ e c.refuse-then-gathered-ne0.ensures; numbers_after = numbers-refused _ _ _ _ e }
+given c = gather-gives _ c.args.file.now _ c.u16_at-version.ensures _ (sym c.gather.ensures.value ∙ c.in_ok-gathered.was {u = tt})
+
+pub returns-then-not-contains-clause-value : goal.returns-then-not-contains-clause-value
+returns-then-not-contains-clause-value c =
+    let t = sym (in-range _ _ _ _ c.new.ensures.start c.new.ensures.end c.new.ensures.exhausted) ∙ sym c.contains.ensures.value ∙ c.if-not-contains.true in
+    failed-head _ _ c.failed.ensures.value _ (reader-wrong _ c.args.file.now t)
+
+pub returns-then-not-contains-clause-numbers_after : goal.returns-then-not-contains-clause-numbers_after
+returns-then-not-contains-clause-numbers_after c =
+    let t = sym (in-range _ _ _ _ c.new.ensures.start c.new.ensures.end c.new.ensures.exhausted) ∙ sym c.contains.ensures.value ∙ c.if-not-contains.true in
+    numbers-refused _ _ _ _ (reader-wrong _ c.args.file.now t)
+
+pub returns-in_err-header-clause-value : goal.returns-in_err-header-clause-value
+returns-in_err-header-clause-value c =
+    let s = served (goal.at.returns-in_err-header-clause-value c).Else-not-contains in
+    let h = passed-refused _ _ (sym c.header.ensures ∙ c.in_err-header.was {u = tt}) in
+    handed_on _ _ c.from_residual.ensures.1 ∙ head-refused _ _ (header-stops _ _ s _ _ h)
+
+pub returns-in_err-header-clause-numbers_after : goal.returns-in_err-header-clause-numbers_after
+returns-in_err-header-clause-numbers_after c =
+    let s = served (goal.at.returns-in_err-header-clause-numbers_after c).Else-not-contains in
+    let h = passed-refused _ _ (sym c.header.ensures ∙ c.in_err-header.was {u = tt}) in
+    numbers-refused _ _ _ _ (header-stops _ _ s _ _ h)
+
+pub returns-in_err-gathered-clause-value : goal.returns-in_err-gathered-clause-value
+unfolding version_of
+returns-in_err-gathered-clause-value c =
+    let a = goal.at.returns-in_err-gathered-clause-value c in
+    let g = gather-stops _ c.args.file.now _ c.u16_at-version.ensures _ (sym c.gather.ensures.value ∙ c.in_err-gathered.was {u = tt}) in
+    handed_on _ _ c.from_residual-in_err-gathered.ensures.1 ∙ head-refused _ _ (records-stop _ _ (served a.Else-not-contains) (passed a.In_ok-header) _ _ g)
+
+pub returns-in_err-gathered-clause-numbers_after : goal.returns-in_err-gathered-clause-numbers_after
+unfolding version_of
+returns-in_err-gathered-clause-numbers_after c =
+    let a = goal.at.returns-in_err-gathered-clause-numbers_after c in
+    let g = gather-stops _ c.args.file.now _ c.u16_at-version.ensures _ (sym c.gather.ensures.value ∙ c.in_err-gathered.was {u = tt}) in
+    numbers-refused _ _ _ _ (records-stop _ _ (served a.Else-not-contains) (passed a.In_ok-header) _ _ g)
 
 pub finish-requires : goal.finish-requires
-unfolding version_of
 finish-requires c =
-    let x = gather-gives _ _ _ c.u16_at-version.ensures _ c.gather-gathered.ensures.value c.if-gathered-ne0.false in
-    (x.parts, (x.ranged, (x.held, c.gather-gathered.ensures.numbers_after x.parts x.found)))
+    let x = given (goal.at.finish-requires c).In_ok-gathered in
+    (x.parts, (x.ranged, (x.held, c.gather.ensures.numbers_after x.parts x.found)))
 
-pub returns : goal.returns
-unfolding version_of serial_of
-returns c =
-    let x = gather-gives _ _ _ c.u16_at-version.ensures _ c.gather-gathered.ensures.value c.if-gathered-ne0.false in
-    let n = c.gather-gathered.ensures.numbers_after x.parts x.found in
-    let e = records-give c.args.reader c.args.file.now (omega (arith, c.if-reader-lt1.false)) (omega (arith, c.if-reader-gt-NEWEST.false)) _ c.header-number.ensures c.if-number-ne0.false _ x.are in
-    record {
-      value = value-finished _ _ _ x.parts e (c.finish.ensures x.parts x.held n ∙ ap (λ (k : ℕ). entered_of (loaded_of (finish_of k x.parts))) c.u32_at.ensures);
-      numbers_after = numbers-finished _ _ _ x.parts e n;
-    }
+pub returns-clause-value : goal.returns-clause-value
+unfolding serial_of
+returns-clause-value c =
+    let a = goal.at.returns-clause-value c in
+    let x = given a.In_ok-gathered in
+    let n = c.gather.ensures.numbers_after x.parts x.found in
+    let e = records-give _ _ (served a.Else-not-contains) (passed a.In_ok-header) _ x.are in
+    c.finish.ensures x.parts x.held n ∙ ap (λ (k : ℕ). head_in (finish_of k x.parts)) c.u32_at.ensures ∙ ap head_in (sym e)
+
+pub returns-clause-numbers_after : goal.returns-clause-numbers_after
+returns-clause-numbers_after c =
+    let a = goal.at.returns-clause-numbers_after c in
+    let x = given a.In_ok-gathered in
+    let n = c.gather.ensures.numbers_after x.parts x.found in
+    numbers-finished _ _ _ _ (records-give _ _ (served a.Else-not-contains) (passed a.In_ok-header) _ x.are) n
