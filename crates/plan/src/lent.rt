@@ -42,7 +42,7 @@ impl Plan {
 impl Lent<'_> {
     ghost use Rattle.std.specs.Prelude.{◌≡◌, true, ℕ, ◌+◌, ◌-◌, ◌≤◌, ltb};
     ghost use Rattle.refusals.specs.Outcome.{and_then, good, is_good};
-    ghost use Rattle.refusals.specs.Sweep.{Done, done, every, answer_of};
+    ghost use Rattle.refusals.specs.Sweep.{Done, done, every, passed_of};
     ghost use Rattle.dubins.specs.Limits.{IsEnds};
     ghost use Rattle.plan.specs.declared.Mode.TheVariants.{Lines, Fillets, Dubins};
     ghost use Rattle.plan.specs.Limits.{most_points, most_radius};
@@ -118,7 +118,7 @@ impl Lent<'_> {
     // 10 at each pair, by its later point.
     fn pairs(&self) -> Result<(), Refusal>
         requires { PointsCounted (lent_plan self.now) }
-        ensures { result ≡ answer_of (pairs_of self.now.head.count (plan_point (lent_plan self.now))) }
+        ensures { result ≡ passed_of (pairs_of self.now.head.count (plan_point (lent_plan self.now))) }
     {
         refusals::sweep(1..self.head.count, |i| {
             pair_number(self.point_at(i - 1), self.point_at(i))
@@ -128,7 +128,7 @@ impl Lent<'_> {
     // 11 at each corner of a plan of lines.
     fn line_corners(&self) -> Result<(), Refusal>
         requires { PointsCounted (lent_plan self.now) }
-        ensures { result ≡ answer_of (corners_of Lines self.now.head.count (plan_point (lent_plan self.now))) }
+        ensures { result ≡ passed_of (corners_of Lines self.now.head.count (plan_point (lent_plan self.now))) }
     {
         refusals::sweep(1..self.head.count - 1, |i| {
             line_corner_number(self.point_at(i - 1), self.point_at(i), self.point_at(i + 1))
@@ -138,7 +138,7 @@ impl Lent<'_> {
     // 12 and 17 at each leg of a Dubins plan, by its end point.
     fn dubins_legs(&self) -> Result<(), Refusal>
         requires { PlanFits (lent_plan self.now) }
-        ensures { result ≡ answer_of (legs_of Dubins self.now.head.radius self.now.head.count (plan_point (lent_plan self.now)) (plan_course (lent_plan self.now))) }
+        ensures { result ≡ passed_of (legs_of Dubins self.now.head.radius self.now.head.count (plan_point (lent_plan self.now)) (plan_course (lent_plan self.now))) }
     {
         refusals::sweep(1..self.head.count, |i| ends_number(self.leg_ends(i)))
     }
@@ -188,7 +188,7 @@ impl Lent<'_> {
     // tangent length.
     fn turns_and_legs(&self) -> Result<(), Refusal>
         requires { PlanFits (lent_plan self.now) }
-        ensures { result ≡ answer_of (and_then (corners_of Fillets self.now.head.count (plan_point (lent_plan self.now))) (λ (_ : Done). legs_of Fillets self.now.head.radius self.now.head.count (plan_point (lent_plan self.now)) no_course)) }
+        ensures { result ≡ passed_of (and_then (corners_of Fillets self.now.head.count (plan_point (lent_plan self.now))) (λ (_ : Done). legs_of Fillets self.now.head.radius self.now.head.count (plan_point (lent_plan self.now)) no_course)) }
     {
         let radius = u64::from(self.head.radius);
         let last = self.head.count - 1;
@@ -214,7 +214,7 @@ impl Lent<'_> {
     // 11 and then 12 of a fillet plan. Its turns are worked out only where products do not show that all is well.
     fn fillet_rules(&self) -> Result<(), Refusal>
         requires { PlanFits (lent_plan self.now) }
-        ensures { result ≡ answer_of (and_then (corners_of Fillets self.now.head.count (plan_point (lent_plan self.now))) (λ (_ : Done). legs_of Fillets self.now.head.radius self.now.head.count (plan_point (lent_plan self.now)) no_course)) }
+        ensures { result ≡ passed_of (and_then (corners_of Fillets self.now.head.count (plan_point (lent_plan self.now))) (λ (_ : Done). legs_of Fillets self.now.head.radius self.now.head.count (plan_point (lent_plan self.now)) no_course)) }
     {
         if self.all_easy() {
             return Ok(());
@@ -225,7 +225,7 @@ impl Lent<'_> {
     // All corners, then all legs. Lines have no rule on legs, and Dubins plans none on corners.
     fn corners_and_legs(&self) -> Result<(), Refusal>
         requires { PlanFits (lent_plan self.now) }
-        ensures { result ≡ answer_of (and_then (corners_of self.now.head.mode self.now.head.count (plan_point (lent_plan self.now))) (λ (_ : Done). legs_of self.now.head.mode self.now.head.radius self.now.head.count (plan_point (lent_plan self.now)) (plan_course (lent_plan self.now)))) }
+        ensures { result ≡ passed_of (and_then (corners_of self.now.head.mode self.now.head.count (plan_point (lent_plan self.now))) (λ (_ : Done). legs_of self.now.head.mode self.now.head.radius self.now.head.count (plan_point (lent_plan self.now)) (plan_course (lent_plan self.now)))) }
     {
         match self.head.mode {
             Mode::Lines => self.line_corners(),
@@ -237,7 +237,7 @@ impl Lent<'_> {
     // All pairs, then all corners, then all legs. Which pair is equal is asked only where one is.
     fn geometry(&self) -> Result<(), Refusal>
         requires { PlanFits (lent_plan self.now) × (self.now.head.count ≤ most_points) }
-        ensures { result ≡ answer_of (geometry_on self.now.head.mode self.now.head.radius self.now.head.count (plan_point (lent_plan self.now)) (plan_course (lent_plan self.now))) }
+        ensures { result ≡ passed_of (geometry_on self.now.head.mode self.now.head.radius self.now.head.count (plan_point (lent_plan self.now)) (plan_course (lent_plan self.now))) }
     {
         if self.all_apart() {
             return self.corners_and_legs();
@@ -248,7 +248,7 @@ impl Lent<'_> {
     // Refusals 8 to 12 and 17 in their order, of a plan with courses given at so many points.
     pub fn rules(&self, given: usize) -> Result<(), Refusal>
         requires { Bounded (lent_plan self.now) }
-        ensures { result ≡ answer_of (rules_of (lent_plan self.now) given) }
+        ensures { result ≡ passed_of (rules_of (lent_plan self.now) given) }
     {
         let count = self.head.count;
         if count < FEWEST_POINTS || MOST_POINTS < count {

@@ -5,7 +5,7 @@
 mod lent;
 
 ghost use Rattle.std.specs.Prelude.{◌≡◌, true, ℕ, ◌+◌, ◌-◌, ◌*◌, ◌/◌, ◌≤◌, ltb, length};
-ghost use Rattle.refusals.specs.Sweep.{every, noted, answer_of, unless_found};
+ghost use Rattle.refusals.specs.Sweep.{every, noted, passed_of, unless_found};
 ghost use Rattle.plane.specs.Area.{InArea};
 ghost use Rattle.plane.specs.declared.Point.{Point};
 ghost use Rattle.plane.specs.Level.{level_leg_of, square_of};
@@ -228,9 +228,9 @@ fn ends_number(ends: Ends) -> Option<u8>
 }
 
 // The refusal at a place, if it has a number.
-#[tactic(auto, unfolding(crate::specs::Rules::at_place, refusals::specs::Sweep::answer_of, refusals::specs::Sweep::noted, conditions::specs::Choose::choose))]
+#[tactic(auto, unfolding(crate::specs::Rules::at_place, refusals::specs::Sweep::passed_of, refusals::specs::Sweep::noted, conditions::specs::Choose::choose))]
 fn at_place(number: Option<u8>, place: usize) -> Result<(), Refusal>
-    ensures { (n : ℕ) → number ≡ noted n → result ≡ answer_of (at_place n place) }
+    ensures { (n : ℕ) → number ≡ noted n → result ≡ passed_of (at_place n place) }
 {
     match number {
         Some(number) => Err(Refusal { number, place }),
@@ -249,7 +249,7 @@ fn leg_found(
     place: usize,
 ) -> Result<(), Refusal>
     requires { (radius ≤ most_radius) × ((before ≤ most_turn) × (after ≤ most_turn)) }
-    ensures { (a b : Point) → squared ≡ square_of (level_leg_of a b) → result ≡ unless_found found (answer_of (at_place (tangent_number a b (tangent_of radius before + tangent_of radius after)) place)) }
+    ensures { (a b : Point) → squared ≡ square_of (level_leg_of a b) → result ≡ unless_found found (passed_of (at_place (tangent_number a b (tangent_of radius before + tangent_of radius after)) place)) }
 {
     found?;
     at_place(turns_number(squared, radius, before, after), place)

@@ -14,7 +14,7 @@ use Rattle.std.proofs.Common.{Option, Some, None, Result, Ok, Err}
 use Rattle.std.specs.Option.{is_some}
 use Rattle.std.specs.Result.{is_ok}
 use Rattle.refusals.specs.declared.Refusal.{Refusal}
-use Rattle.refusals.specs.Sweep.{Done, done, sweep, every, noted, answer_of, unless_found}
+use Rattle.refusals.specs.Sweep.{Done, done, sweep, every, noted, passed_of, unless_found}
 use Rattle.refusals.proofs.OutcomeLaws.{Proper}
 
 -- ---- from place i up to n
@@ -161,13 +161,13 @@ sweep-more f (suc k) i =
     ∙ choose-then (eqb (f i) 0) (sweep f k (i + 1)) (f i) (i + 1) (sweep f 1 (i + 1 + k))
     ∙ ap (λ (j : ℕ). and_then (sweep f (suc k) i) (λ (_ : Done). sweep f 1 j)) e
 
-then-answer : (o q : Outcome Done) → answer_of (and_then o (λ (_ : Done). q)) ≡ unless_found (answer_of o) (answer_of q)
-unfolding and_then answer_of unless_found
+then-answer : (o q : Outcome Done) → passed_of (and_then o (λ (_ : Done). q)) ≡ unless_found (passed_of o) (passed_of q)
+unfolding and_then passed_of unless_found
 then-answer (good d) q = refl
 then-answer (refused n p) q = refl
 
-pub sweep-grown : (f : ℕ → ℕ) (k i : ℕ) → answer_of (sweep f (suc k) i) ≡ unless_found (answer_of (sweep f k i)) (answer_of (sweep f 1 (i + k)))
-sweep-grown f k i = ap answer_of (sweep-more f k i) ∙ then-answer (sweep f k i) (sweep f 1 (i + k))
+pub sweep-grown : (f : ℕ → ℕ) (k i : ℕ) → passed_of (sweep f (suc k) i) ≡ unless_found (passed_of (sweep f k i)) (passed_of (sweep f 1 (i + k)))
+sweep-grown f k i = ap passed_of (sweep-more f k i) ∙ then-answer (sweep f k i) (sweep f 1 (i + k))
 
 -- ---- a sweep with no way out, which sums what does not pass: the sum so far is 0, and every place that is left passes
 abbrev pub passing : (ℕ → Bool) → ℕ → ℕ → ℕ → Bool
@@ -206,8 +206,8 @@ noted-some zero n h = let e : n + 1 ≡ 0 = noted-tag zero (Some n) h in absurd 
 noted-some (suc m) n h = let e : n + 1 ≡ suc m + 1 = noted-tag (suc m) (Some n) h in (omega (arith, e), λ z. omega (arith, z))
 
 module _ (f : ℕ → ℕ) (start end i : ℕ) {place : ℕ} (whole : sweep f (end - start) start ≡ sweep f (end - i) i) (at : place ≡ i) where
-  pub noted-hit : {n : ℕ} → i < end → Some n ≡ noted (f place) → Err (record { number = n; place = place + 1 }) ≡ answer_of (sweep f (end - start) start)
-  unfolding answer_of
+  pub noted-hit : {n : ℕ} → i < end → Some n ≡ noted (f place) → Err (record { number = n; place = place + 1 }) ≡ passed_of (sweep f (end - start) start)
+  unfolding passed_of
   noted-hit {n} b h =
       let e = noted-some (f place) n h in
       rw (whole ∙ sweep-hit f end i b (λ z. e.1 (ap f at ∙ z)), e.0, at)
@@ -226,7 +226,7 @@ unfolding noted
 noted-passes zero h = refl
 noted-passes (suc m) h = clash true refl h
 
-pub answer-good : (o : Outcome Done) → is_ok (answer_of o) ≡ is_good o
-unfolding answer_of is_good
+pub answer-good : (o : Outcome Done) → is_ok (passed_of o) ≡ is_good o
+unfolding passed_of is_good
 answer-good (good d) = refl
 answer-good (refused n p) = refl

@@ -24,10 +24,10 @@ unfoldable pub noted : ℕ → Option ℕ
 noted zero = None
 noted (suc n) = Some (suc n)
 
--- an outcome that has no value, as functions answer it
-unfoldable pub answer_of : Outcome Done → Result Unit Refusal
-answer_of (good d) = Ok tt
-answer_of (refused number place) = Err (record { number = number; place = place })
+-- whether an outcome passed, as functions answer it
+unfoldable pub passed_of : {A : Type 0} → Outcome A → Result Unit Refusal
+passed_of (good a) = Ok tt
+passed_of (refused number place) = Err (record { number = number; place = place })
 
 -- the next answer, unless something was found before
 unfoldable pub unless_found : Result Unit Refusal → Result Unit Refusal → Result Unit Refusal

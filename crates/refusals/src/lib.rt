@@ -4,7 +4,7 @@
 
 ghost use Rattle.std.specs.Prelude.{◌≡◌, false, Option, ℕ, ◌-◌, ◌≤◌, ◌<◌};
 ghost use Rattle.refusals.specs.Outcome.{good, check, refusal_of};
-ghost use Rattle.refusals.specs.Sweep.{done, sweep, noted, answer_of};
+ghost use Rattle.refusals.specs.Sweep.{done, sweep, noted, passed_of};
 ghost use Rattle.refusals.specs.Order.{Order};
 
 use std::ops::Range;
@@ -84,7 +84,7 @@ pub fn failed(number: u8) -> Refusal
 // The first of the places that is refused, with the number that its check gives. Places are counted from 0 here and from 1 in a refusal.
 pub fn sweep<F: Fn(usize) -> Option<u8>>(places: Range<usize>, number_at: F) -> Result<(), Refusal>
     requires { (i : ℕ) → places.start ≤ i → i < places.end → F.pre number_at i }
-    ensures { (f : ℕ → ℕ) → ((i : ℕ) (r : Option ℕ) → places.start ≤ i → i < places.end → F.post number_at i r → r ≡ noted (f i)) → result ≡ answer_of (sweep f (places.end - places.start) places.start) }
+    ensures { (f : ℕ → ℕ) → ((i : ℕ) (r : Option ℕ) → places.start ≤ i → i < places.end → F.post number_at i r → r ≡ noted (f i)) → result ≡ passed_of (sweep f (places.end - places.start) places.start) }
 {
     for place in places {
         if let Some(number) = number_at(place) {

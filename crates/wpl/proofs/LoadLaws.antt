@@ -22,7 +22,7 @@ use Rattle.integers.proofs.BoundLaws.{within-lit}
 use Rattle.refusals.specs.declared.Refusal.{Refusal}
 use Rattle.refusals.specs.Numbers.{file_too_short, no_mark, no_version, no_serial, wrong_area}
 use Rattle.refusals.specs.Outcome.{Outcome, good, refused, check, and_then, refusal_of, is_good}
-use Rattle.refusals.specs.Sweep.{Done, done}
+use Rattle.refusals.specs.Sweep.{Done, done, passed_of}
 use Rattle.refusals.proofs.OutcomeLaws.{Proper, proper-good, proper-check, proper-then, check-true, check-false, then-good, then-means, then-stops, never-good}
 use Rattle.refusals.proofs.SweepLaws.{good-is}
 use Rattle.buffers.specs.Splice.{over, zeroed}
@@ -34,11 +34,12 @@ use Rattle.plan.specs.declared.Plan.{Plan}
 use Rattle.plan.specs.Limits.{fewest_points, most_points, full_circle}
 use Rattle.plan.specs.Places.{no_point, points_at, courses_at, padded, seen, block, plan_numbers, numbers_of, planned_in, Filled}
 use Rattle.plan.specs.Rules.{mode_of, courses_fit}
-use Rattle.plan.specs.Stands.{IsCourse, Bounded, Long, rules_of}
+use Rattle.plan.specs.Stands.{IsCourse, Bounded, rules_of}
+use Rattle.plan.specs.Long.{Long}
 use Rattle.plan.specs.Loaded.{plan_of}
 use Rattle.plan.proofs.PlannedLaws.{filled-long, planned-filled, planned-back, padded-filled, padded-within, point-within}
 use Rattle.plan.proofs.PlaceLaws.{rules-padded}
-use Rattle.plan.proofs.RuleLaws.{rules-few, rules-many, rules-courses, rules-proper, rules-clean, rules-passed}
+use Rattle.plan.proofs.RuleLaws.{rules-few, rules-many, rules-courses, rules-proper, rules-passed}
 use Rattle.manager.specs.declared.Progress.{Progress}
 use Rattle.manager.specs.declared.State.{State}
 use Rattle.manager.specs.State.{empty_plan, empty_state, first_progress, start_of}
@@ -51,7 +52,7 @@ use Rattle.records.specs.Walk.{walk}
 use Rattle.records.proofs.GatherLaws.{gather-ranged, none-ranged, gather-proper, gathered-good, gathered-refused}
 use Rattle.wpl.specs.declared.Loaded.{Loaded}
 use Rattle.wpl.specs.declared.Entered.{Entered}
-use Rattle.wpl.specs.Header.{most_area, marked_of, version_of, serial_of, area_of, area_fits, header_of, passed_of}
+use Rattle.wpl.specs.Header.{most_area, marked_of, version_of, serial_of, area_of, area_fits, header_of}
 use Rattle.wpl.specs.Load.{records_of, parts_of, settle_of, rules_in, finish_of, body_of, load_of, loaded_of, refused_of, head_from, head_in, entered_of}
 use Rattle.wpl.proofs.LoadStepLaws.{load-steps}
 
@@ -126,14 +127,17 @@ module _ (f : List ℕ) where
   unfolding refusal_of check passed_of
   failed-passed n x k h = rw (k, h) refl
 
-pub passed-good : (o : Outcome Done) (u : Unit {0}) → passed_of o ≡ Ok u → o ≡ good done
-unfolding passed_of
-passed-good (good done) u h = refl
-passed-good (refused n p) u h = cc
+pub passed-is-good : {A : Type 0} (o : Outcome A) (u : Unit {0}) → passed_of o ≡ Ok u → is_good o ≡ true
+unfolding passed_of is_good
+passed-is-good (good a) u h = refl
+passed-is-good (refused n p) u h = cc
 
-pub passed-refused : (o : Outcome Done) (e : Refusal) → passed_of o ≡ Err e → o ≡ refused e.number e.place
+pub passed-good : (o : Outcome Done) (u : Unit {0}) → passed_of o ≡ Ok u → o ≡ good done
+passed-good o u h = good-is o (passed-is-good o u h)
+
+pub passed-refused : {A : Type 0} (o : Outcome A) (e : Refusal) → passed_of o ≡ Err e → o ≡ refused e.number e.place
 unfolding passed_of
-passed-refused (good d) e h = cc
+passed-refused (good a) e h = cc
 passed-refused (refused n p) e h = let k : record { number = n; place = p } ≡ e = cc in ap (λ (x : Refusal). refused x.number x.place) k
 
 -- ---- one check after another
@@ -291,25 +295,25 @@ module _ (serial : ℕ) (g : Gathered) (h : Head) (fits : h ≡ head_from serial
   pub made-bounded : InRange a → Bounded (planned_in h numbers)
   made-bounded r = subst Bounded (sym made) (held-bounded serial a r)
 
-  module _ (found : Refusal) (k : found ≡ refusal_of (rules_of (planned_in h numbers) g.given)) where
-    judged : found ≡ refusal_of (rules_in a)
-    judged = k ∙ (λ i. refusal_of (rules_of (made i) (e i).given)) ∙ ap refusal_of (rules-held serial a)
+  module _ (found : Result (Unit {0}) Refusal) (k : found ≡ passed_of (rules_of (planned_in h numbers) g.given)) where
+    judged : found ≡ passed_of (rules_in a)
+    judged = k ∙ (λ i. passed_of (rules_of (made i) (e i).given)) ∙ ap passed_of (rules-held serial a)
 
-    pub finish-refused : (found.number ≡ 0 → ⊥) → finish_of serial a ≡ refused found.number found.place
+    pub finish-refused : (x : Refusal) → found ≡ Err x → finish_of serial a ≡ refused x.number x.place
     unfolding finish_of
-    finish-refused n = then-stops (rules_in a) _ _ _ (refusal_is (rules_in a) _ _ (sym judged) n)
+    finish-refused x n = then-stops (rules_in a) _ _ _ (passed-refused (rules_in a) x (sym judged ∙ n))
 
-    made-plan : found.number ≡ 0 → (rules_in a ≡ good done) × (held_plan serial a ≡ plan_of serial a.radius a.points a.courses)
+    made-plan : (u : Unit {0}) → found ≡ Ok u → (rules_in a ≡ good done) × (held_plan serial a ≡ plan_of serial a.radius a.points a.courses)
     unfolding rules_in
-    made-plan z =
-        let o = rules-clean _ _ _ _ _ _ (ap (λ (q : Refusal). q.number) (sym judged) ∙ z) in
+    made-plan u z =
+        let o = passed-is-good (rules_in a) u (sym judged ∙ z) in
         let p = rules-passed _ _ _ _ _ _ o in
         (good-is (rules_in a) o, all_held serial a p.least p.most (given-most _ _ _ p.most p.courses))
 
-    pub finish-good : found.number ≡ 0 → ◌≡◌ {A = Result Head Refusal} (Ok h) (head_in (finish_of serial a))
+    pub finish-good : (u : Unit {0}) → found ≡ Ok u → ◌≡◌ {A = Result Head Refusal} (Ok h) (head_in (finish_of serial a))
     unfolding finish_of head_in
-    finish-good z =
-        let m = made-plan z in
+    finish-good u z =
+        let m = made-plan u z in
         ap (λ (q : Head). Ok q) (head-made ∙ ap (λ (p : Plan). p.head) m.1) ∙ ap head_in (sym (then-good (rules_in a) done _ m.0))
 
 -- ---- the head alone: which load it is of

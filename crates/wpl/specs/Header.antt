@@ -36,8 +36,3 @@ header_of f =
     (check (ltb 0 (version_of f)) no_version
     (check (ltb 0 (serial_of f)) no_serial
     (check (area_fits f) wrong_area (good done)))))
-
--- as the code answers it; for proofs alone
-unfoldable pub passed_of : Outcome Done → Result (Unit {0}) Refusal
-passed_of (good d) = Ok tt
-passed_of (refused number place) = Err (record { number = number; place = place })

@@ -4,16 +4,17 @@
 ghost use Rattle.std.specs.Prelude.{◌≡◌, ◌+◌, ◌≤◌, [], length, take, drop, unwrap_or};
 ghost use Rattle.std.specs.Option.{option_copied};
 ghost use Rattle.conditions.specs.All.{All};
-ghost use Rattle.refusals.specs.Outcome.{good, refusal_of};
+ghost use Rattle.refusals.specs.Outcome.{good};
+ghost use Rattle.refusals.specs.Sweep.{passed_of};
 ghost use Rattle.plan.specs.Limits.{most_points};
-ghost use Rattle.plan.specs.Places.{seen, plan_numbers, numbers_of, Filled};
-ghost use Rattle.plan.specs.Stands.{Long};
+ghost use Rattle.plan.specs.Places.{plan_numbers, numbers_of, Filled};
+ghost use Rattle.plan.specs.Lent.{lent_plan};
 ghost use Rattle.manager.specs.declared.State.{State};
-ghost use Rattle.manager.specs.State.{viewed};
+ghost use Rattle.manager.specs.State.{state_of};
 ghost use Rattle.records.specs.Kinds.{Parts, no_parts};
 ghost use Rattle.records.specs.Gather.{header_length, InRange};
 ghost use Rattle.records.specs.Held.{answer_of, numbers_in};
-ghost use Rattle.wpl.specs.Header.{marked_of, area_fits, header_of, passed_of};
+ghost use Rattle.wpl.specs.Header.{marked_of, area_fits, header_of};
 ghost use Rattle.wpl.specs.Load.{records_of, finish_of, load_of, loaded_of, refused_of, head_from, head_in, entered_of};
 ghost use Rattle.wpl.specs.Write.{carried_since, write_of, written_of, buffer_of};
 ghost use Rattle.wpl.specs.RoundTrip.{RoundTrip, EveryReader};
@@ -22,7 +23,7 @@ ghost use Rattle.wpl.specs.Order.{Refused, load_order, write_order};
 ghost use Rattle.wpl.specs.Note.{note_in, note_of, notes_in, notes_of, Numbered};
 
 use manager::{Progress, State};
-use plan::{Head, Mode, Plan};
+use plan::{Head, Lent, Mode, Plan};
 use records::{AREA_OFFSET, Gathered, MARK, NEWEST, SERIAL_OFFSET, VERSION_OFFSET};
 use refusals::Refusal;
 
@@ -55,7 +56,7 @@ pub struct Entered {
     pub progress: Progress,
 }
 
-// The length of the file that was written, or a refusal with its place and length 0.
+// The length of the file that was written, or a refusal with its place and length 0: no Result, as C gets these three (17.7) and `written_of` has them.
 #[derive(Clone, Copy)]
 pub struct Written {
     pub refusal: u8,
@@ -132,10 +133,9 @@ fn refuse(found: Refusal) -> Entered
 fn head_of(serial: u32, gathered: Gathered) -> Head
     ensures { result ≡ head_from serial gathered }
 {
-    let mode = plan::mode_of(gathered.radius, gathered.given);
     Head {
         serial,
-        mode,
+        mode: plan::mode_of(gathered.radius, gathered.given),
         radius: gathered.radius,
         count: gathered.count,
     }
@@ -147,17 +147,14 @@ fn finish(serial: u32, gathered: Gathered, numbers: &[i32]) -> Result<Head, Refu
     ensures { (a : Parts) → gathered ≡ answer_of a → numbers.now ≡ numbers_in a → result ≡ head_in (finish_of serial a) }
 {
     let head = head_of(serial, gathered);
-    let found = plan::rules(
+    let plan = Lent {
         head,
-        gathered.given,
-        &numbers[NORTHS_START..EASTS_START],
-        &numbers[EASTS_START..DOWNS_START],
-        &numbers[DOWNS_START..COURSES_START],
-        &numbers[COURSES_START..plan::NUMBERS],
-    );
-    if found.number != 0 {
-        return Err(found);
-    }
+        norths: &numbers[NORTHS_START..EASTS_START],
+        easts: &numbers[EASTS_START..DOWNS_START],
+        downs: &numbers[DOWNS_START..COURSES_START],
+        courses: &numbers[COURSES_START..plan::NUMBERS],
+    };
+    plan.rules(gathered.given)?;
     Ok(head)
 }
 
@@ -218,23 +215,19 @@ pub fn load(file: &[u8], reader: u32) -> Loaded
 {
     let mut numbers = [0i32; plan::NUMBERS];
     let entered = load_into(file, reader, &mut numbers);
-    let head = entered.head;
-    let norths = block_of(&numbers, NORTHS_START);
-    let easts = block_of(&numbers, EASTS_START);
-    let downs = block_of(&numbers, DOWNS_START);
-    let courses = block_of(&numbers, COURSES_START);
-    let plan = Plan {
-        head,
-        norths,
-        easts,
-        downs,
-        courses,
-    };
-    let progress = entered.progress;
     Loaded {
         refusal: entered.refusal,
         place: entered.place,
-        state: State { plan, progress },
+        state: State {
+            plan: Plan {
+                head: entered.head,
+                norths: block_of(&numbers, NORTHS_START),
+                easts: block_of(&numbers, EASTS_START),
+                downs: block_of(&numbers, DOWNS_START),
+                courses: block_of(&numbers, COURSES_START),
+            },
+            progress: entered.progress,
+        },
     }
 }
 
@@ -262,78 +255,45 @@ fn carried_since(mode: Mode) -> u32
     }
 }
 
-// The refusal of a write into so much room, 0 for none.
-fn write_refusal<'a>(
-    head: Head,
-    progress: Progress,
-    norths: &'a [i32],
-    easts: &'a [i32],
-    downs: &'a [i32],
-    courses: &'a [i32],
-    version: u32,
-    room: usize,
-) -> u8
-    requires { Long norths.now easts.now downs.now courses.now }
-    ensures { refusal_of (write_of (viewed head progress norths.now easts.now downs.now courses.now) version room) ≡ record { number = result; place = 0 } }
+// Whether a write into so much room is refused, and why.
+fn write_refusal(plan: &Lent, progress: Progress, version: u32, room: usize) -> Result<(), Refusal>
+    ensures { result ≡ passed_of (write_of (state_of (lent_plan plan.now) progress) version room) }
 {
-    if !manager::valid(head, progress, norths, easts, downs, courses) {
-        return refusals::NO_STATE;
+    if !manager::valid(plan, progress) {
+        return Err(refusals::failed(refusals::NO_STATE));
     }
-    if version < 1 {
-        return refusals::NO_VERSION;
+    if !(1..=NEWEST).contains(&version) {
+        return Err(refusals::failed(refusals::NO_VERSION));
     }
-    if NEWEST < version {
-        return refusals::NO_VERSION;
+    if version < carried_since(plan.head.mode) {
+        return Err(refusals::failed(refusals::TOO_NEW));
     }
-    let mode = head.mode;
-    if version < carried_since(mode) {
-        return refusals::TOO_NEW;
+    if room < writer::file_length(plan.head) {
+        return Err(refusals::failed(refusals::NO_ROOM));
     }
-    if room < writer::file_length(head) {
-        return refusals::NO_ROOM;
-    }
-    0
+    Ok(())
 }
 
-// The file of the plan of lent numbers at a version, into the first bytes of a buffer. Refused, nothing is written.
-pub fn write_from<'a>(
-    head: Head,
-    progress: Progress,
-    norths: &'a [i32],
-    easts: &'a [i32],
-    downs: &'a [i32],
-    courses: &'a [i32],
-    version: u32,
-    file: &mut [u8],
-) -> Written
-    requires { Filled (seen head norths.now easts.now downs.now courses.now) }
-    ensures value { result ≡ written_of (write_of (viewed head progress norths.now easts.now downs.now courses.now) version (length file.old)) }
-    ensures file_after { file.new ≡ buffer_of (write_of (viewed head progress norths.now easts.now downs.now courses.now) version (length file.old)) file.old }
-    ensures round_trip { RoundTrip (viewed head progress norths.now easts.now downs.now courses.now) }
-    ensures every_reader { EveryReader (viewed head progress norths.now easts.now downs.now courses.now) }
+// The file of a lent plan at a version, into the first bytes of a buffer. Refused, nothing is written.
+pub fn write_from(plan: &Lent, progress: Progress, version: u32, file: &mut [u8]) -> Written
+    requires { Filled (lent_plan plan.now) }
+    ensures value { result ≡ written_of (write_of (state_of (lent_plan plan.now) progress) version (length file.old)) }
+    ensures file_after { file.new ≡ buffer_of (write_of (state_of (lent_plan plan.now) progress) version (length file.old)) file.old }
+    ensures round_trip { RoundTrip (state_of (lent_plan plan.now) progress) }
+    ensures every_reader { EveryReader (state_of (lent_plan plan.now) progress) }
 {
-    let number = write_refusal(
-        head,
-        progress,
-        norths,
-        easts,
-        downs,
-        courses,
-        version,
-        file.len(),
-    );
-    if number != 0 {
+    if let Err(found) = write_refusal(plan, progress, version, file.len()) {
         return Written {
-            refusal: number,
-            place: 0,
+            refusal: found.number,
+            place: found.place,
             length: 0,
         };
     }
-    writer::put_plan(head, norths, easts, downs, courses, version as u16, file);
+    writer::put_plan(plan, version as u16, file);
     Written {
         refusal: 0,
         place: 0,
-        length: writer::file_length(head),
+        length: writer::file_length(plan.head),
     }
 }
 
@@ -345,18 +305,7 @@ pub fn write(state: State, version: u32, file: &mut [u8]) -> Written
     ensures every_reader { EveryReader state }
     ensures all { All Refused write_order }
 {
-    let head = state.plan.head;
-    let progress = state.progress;
-    write_from(
-        head,
-        progress,
-        &state.plan.norths,
-        &state.plan.easts,
-        &state.plan.downs,
-        &state.plan.courses,
-        version,
-        file,
-    )
+    write_from(&state.plan.lent(), state.progress, version, file)
 }
 
 // The bytes of a note, where there is one.

@@ -1,6 +1,6 @@
 -- `sweep` finds the first of the places whose check gives a number. Assumes nothing.
 use Rattle.std.proofs.Common.{rules, ◌≡◌, ◌+◌, ◌-◌, ◌<◌, ◌≤◌, None, Some, subst, sym, ap, ◌∙◌}
-use Rattle.refusals.specs.Sweep.{sweep, noted, answer_of}
+use Rattle.refusals.specs.Sweep.{sweep, noted, passed_of}
 use Rattle.refusals.proofs.SweepLaws.{noted-hit, noted-next}
 use Rattle.refusals.proofs.sweep.Goals as goal
 
@@ -31,5 +31,5 @@ loop-place-preserved g c =
     )
 
 pub returns : goal.returns
-unfolding sweep noted answer_of
+unfolding sweep noted passed_of
 returns g c = search rules

@@ -6,4 +6,4 @@ use Rattle.wpl.proofs.head_of.Goals as goal
 pub returns : goal.returns
 returns c =
     let s = c.args in
-    ap (λ (m : Mode). record { serial = s.serial; mode = m; radius = s.gathered.radius; count = s.gathered.count }) c.mode_of-mode.ensures
+    ap (λ (m : Mode). record { serial = s.serial; mode = m; radius = s.gathered.radius; count = s.gathered.count }) c.mode_of.ensures

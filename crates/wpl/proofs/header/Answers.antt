@@ -1,7 +1,8 @@
 -- `header` asks 1 to 5 in their order. Assumes nothing.
 use mathlib.Core.Path.{refl, sym, ◌∙◌}
 use native.Mathlib.Omega.{arith}
-use Rattle.wpl.specs.Header.{version_of, serial_of, passed_of}
+use Rattle.refusals.specs.Sweep.{passed_of}
+use Rattle.wpl.specs.Header.{version_of, serial_of}
 use Rattle.wpl.proofs.LoadLaws.{too_short, unmarked, unversioned, unnumbered, misfit, passes, failed-passed}
 use Rattle.wpl.proofs.header.Goals as goal
 

@@ -7,8 +7,8 @@ use Rattle.wpl.proofs.load.Goals as goal
 pub returns : goal.returns
 returns c =
     record {
-      value = loaded-whole _ (loaded-filled _ _ _ refl) c.load_into-entered.ensures.value c.load_into-entered.ensures.numbers_after c.block_of-norths.ensures c.block_of-easts.ensures
-          c.block_of-downs.ensures c.block_of-courses.ensures;
+      value = loaded-whole _ (loaded-filled _ _ _ refl) c.load_into-entered.ensures.value c.load_into-entered.ensures.numbers_after c.block_of.ensures c.block_of-2.ensures
+          c.block_of-3.ensures c.block_of-4.ensures;
       starts = c.load_into-entered.ensures.starts;
       all = in_order.0;
     }

@@ -4,4 +4,5 @@ use Rattle.wpl.proofs.write.Goals as goal
 
 pub returns : goal.returns
 returns c =
-    record { value = c.write_from.ensures.value; file_after = c.write_from.ensures.file_after; round_trip = c.write_from.ensures.round_trip; every_reader = c.write_from.ensures.every_reader; all = in_order.1 }
+    let e = rw c.lent.ensures at c.write_from.ensures in
+    record { value = e.value; file_after = e.file_after; round_trip = e.round_trip; every_reader = e.every_reader; all = in_order.1 }

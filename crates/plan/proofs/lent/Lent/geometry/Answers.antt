@@ -1,6 +1,6 @@
 -- `geometry` asks all pairs, then all corners, then all legs. Assumes nothing.
 use mathlib.Core.Path.{sym, ap, ◌∙◌}
-use Rattle.refusals.specs.Sweep.{answer_of}
+use Rattle.refusals.specs.Sweep.{passed_of}
 use Rattle.plan.specs.Places.{plan_point, plan_course}
 use Rattle.plan.specs.Lent.{lent_plan}
 use Rattle.plan.proofs.RuleLaws.{geometry-pairs, geometry-rest}
@@ -13,10 +13,10 @@ pub returns-then-all_apart : goal.returns-then-all_apart
 returns-then-all_apart c =
     let p = lent_plan c.args.self.now in
     c.corners_and_legs.ensures
-    ∙ ap answer_of (sym (geometry-rest p.head.mode p.head.radius p.head.count (plan_point p) (plan_course p) (sym c.all_apart.ensures ∙ c.if-all_apart.true)))
+    ∙ ap passed_of (sym (geometry-rest p.head.mode p.head.radius p.head.count (plan_point p) (plan_course p) (sym c.all_apart.ensures ∙ c.if-all_apart.true)))
 
 pub returns : goal.returns
 returns c =
     let p = lent_plan c.args.self.now in
     c.pairs.ensures
-    ∙ ap answer_of (sym (geometry-pairs p.head.mode p.head.radius p.head.count (plan_point p) (plan_course p) (sym c.all_apart.ensures ∙ c.if-all_apart.false)))
+    ∙ ap passed_of (sym (geometry-pairs p.head.mode p.head.radius p.head.count (plan_point p) (plan_course p) (sym c.all_apart.ensures ∙ c.if-all_apart.false)))

@@ -2,7 +2,7 @@
 use mathlib.Core.Path.{◌≡◌, ap, ◌∙◌}
 use Prim.Native.Nat.{ℕ, ◌+◌, ◌-◌}
 use native.Mathlib.Omega.{arith}
-use Rattle.refusals.specs.Sweep.{answer_of, unless_found}
+use Rattle.refusals.specs.Sweep.{passed_of, unless_found}
 use Rattle.fillets.specs.Corners.{tangent_of}
 use Rattle.plan.specs.Places.{plan_point, no_course}
 use Rattle.plan.specs.Rules.{tangent_number, at_place}
@@ -31,7 +31,7 @@ loop-i-preserved c =
     carried-next p.head.radius p.head.count at no_course l.i l.before c.lesser_turn-turn.result l.leg c.level_leg_at-next.result l.found l.invariant
     (omega (arith, c.loop-i-test.true)) c.level_leg_at-next.ensures c.lesser_turn-turn.ensures.0 c.leg_found-found.result
     (c.leg_found-found.ensures (at (l.i - 1)) (at l.i) l.invariant.level.squared
-    ∙ ap (λ (R : ℕ). unless_found l.found (answer_of (at_place (tangent_number (at (l.i - 1)) (at l.i) (tangent_of R l.before + tangent_of R c.lesser_turn-turn.result)) (l.i + 1)))) r)
+    ∙ ap (λ (R : ℕ). unless_found l.found (passed_of (at_place (tangent_number (at (l.i - 1)) (at l.i) (tangent_of R l.before + tangent_of R c.lesser_turn-turn.result)) (l.i + 1)))) r)
     c.if-turn-gt-MOST_TURN.false
 
 pub returns : goal.returns
@@ -42,4 +42,4 @@ returns c =
     let r : c.from-radius.result ≡ p.head.radius = c.from-radius.ensures in
     last-answer p.head.radius p.head.count at no_course l.i l.before l.leg l.found c.leg_found.result l.invariant (omega (arith, c.loop-i-test.false))
     (c.leg_found.ensures (at (l.i - 1)) (at l.i) l.invariant.level.squared
-    ∙ ap (λ (R : ℕ). unless_found l.found (answer_of (at_place (tangent_number (at (l.i - 1)) (at l.i) (tangent_of R l.before + tangent_of R 0)) p.head.count))) r)
+    ∙ ap (λ (R : ℕ). unless_found l.found (passed_of (at_place (tangent_number (at (l.i - 1)) (at l.i) (tangent_of R l.before + tangent_of R 0)) p.head.count))) r)
