@@ -38,7 +38,7 @@ fn put_u16(value: u16, part: &mut [u8])
     requires { 2 ≤ length part.old }
     ensures { part.new ≡ over (u16_bytes value) part.old }
 {
-    buffers::put_bytes(&value.to_be_bytes(), part);
+    buffers::put(&value.to_be_bytes(), part);
 }
 
 // A number as four bytes.
@@ -46,7 +46,7 @@ fn put_u32(value: u32, part: &mut [u8])
     requires { 4 ≤ length part.old }
     ensures { part.new ≡ over (u32_bytes value) part.old }
 {
-    buffers::put_bytes(&value.to_be_bytes(), part);
+    buffers::put(&value.to_be_bytes(), part);
 }
 
 // The body of a point.
@@ -64,7 +64,7 @@ fn put_mark(file: &mut [u8])
     requires { 3 ≤ length file.old }
     ensures { file.new ≡ over mark file.old }
 {
-    buffers::put_bytes(&MARK, file);
+    buffers::put(&MARK, file);
 }
 
 // The header before an area of so many bytes.

@@ -12,5 +12,5 @@ unfolding u16_bytes
 returns c =
     let n = c.args.value in
     let high : n / 256 % 256 ≡ n / 256 = omega (arith, c.ranges.value.fits) in
-    c.put_bytes.ensures.part_after
+    c.put.ensures.part_after
     ∙ ap (λ (l : List ℕ). over l c.args.part.now) (c.to_be_bytes.ensures ∙ (λ i. high i ∷ n % 256 ∷ []))

@@ -14,5 +14,5 @@ returns c =
     let first : n / 16777216 % 256 ≡ n / 65536 / 256 = omega (arith, c.ranges.value.fits) in
     let third : n / 256 % 256 ≡ n % 65536 / 256 = omega arith in
     let last : n % 256 ≡ n % 65536 % 256 = omega arith in
-    c.put_bytes.ensures.part_after
+    c.put.ensures.part_after
     ∙ ap (λ (l : List ℕ). over l c.args.part.now) (c.to_be_bytes.ensures ∙ (λ i. first i ∷ n / 65536 % 256 ∷ third i ∷ last i ∷ []))
