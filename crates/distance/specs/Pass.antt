@@ -1,7 +1,6 @@
 -- No clause: what the pass from the last leg to the first relies on, and what it carries from leg to leg. For proofs alone: no contract of a public
 -- function cites it. Assumes nothing.
-use Rattle.std.specs.Prelude.{◌≡◌, Bool, List, ℕ, ◌+◌, ◌-◌, ◌*◌, ◌≤◌, ◌<◌}
-use Rattle.conditions.specs.Choose.{choose}
+use Rattle.std.specs.Prelude.{◌≡◌, List, ℕ, ◌+◌, ◌-◌, ◌*◌, ◌≤◌, ◌<◌}
 use Rattle.buffers.specs.Splice.{splice}
 use Rattle.plane.specs.declared.Point.{Point}
 use Rattle.fillets.specs.Corners.{corner_turn}
@@ -43,6 +42,6 @@ pub record AddedUp (p : Plan) (i : ℕ) (c : Carry) : Type 0 where
   pub most : c.left ≤ 3000000 * (p.head.count - 1 - i)
   pub corner : p.head.mode ≡ Fillets → Rounded p.head.radius p.head.count (plan_point p) i c.corner
 
--- a table into which the entries from the leg that ends at place i on are told, or are not
-unfoldable pub told_from : Bool → Plan → ℕ → List ℕ → List ℕ
-told_from told p i table = choose told (splice (i + 1) (entries_from p (p.head.count - i) (i + 1)) table) table
+-- a table into which the entries from the leg that ends at place i on are told
+unfoldable pub told_from : Plan → ℕ → List ℕ → List ℕ
+told_from p i table = splice (i + 1) (entries_from p (p.head.count - i) (i + 1)) table

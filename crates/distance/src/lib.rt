@@ -136,21 +136,19 @@ fn begin(plan: &Lent) -> Carry
     }
 }
 
-// What is left from the leg that ends at a place on. Where it is to be told, the entry of each index from there on is written to a table.
-fn measure(plan: &Lent, place: usize, told: bool, table: &mut [u32]) -> u32
+// What is left from the leg that ends at a place on. The entry of each index from there on is written to the table, which has all of them or is empty.
+fn measure(plan: &Lent, place: usize, table: &mut [u32]) -> u32
     requires sound { Sound (lent_plan plan.now) }
-    requires le_place { ((1 ≤ place) × (place < plan.now.head.count)) × (told ≡ true → plan.now.head.count < length table.old) }
+    requires le_place { (1 ≤ place) × (place < plan.now.head.count) }
     ensures value { result ≡ plan_length (lent_plan plan.now) place }
-    ensures table_after { table.new ≡ told_from told (lent_plan plan.now) place table.old }
+    ensures table_after { plan.now.head.count < length table.old → table.new ≡ told_from (lent_plan plan.now) place table.old }
 {
     let mut carry = begin(plan);
-    let mut i = plan.head.count - 1;
-    while place <= i {
+    for i in (place..plan.head.count).rev() {
         carry = step(plan, carry, i);
-        if told {
+        if i + 1 < table.len() {
             table[i + 1] = carry.left as u32;
         }
-        i -= 1;
     }
     carry.left as u32
 }
@@ -172,7 +170,7 @@ pub fn distances_from(plan: &Lent, progress: Progress, table: &mut [u32]) -> Ref
             place: 0,
         };
     }
-    measure(plan, 1, true, table);
+    measure(plan, 1, table);
     Refusal {
         number: 0,
         place: 0,
@@ -190,8 +188,7 @@ pub fn distance_from(plan: &Lent, progress: Progress) -> Measured
             left: 0,
         };
     }
-    let mut none = [0u32; 1];
-    let left = measure(plan, progress.index - 1, false, &mut none);
+    let left = measure(plan, progress.index - 1, &mut []);
     Measured {
         refusal: 0,
         place: 0,

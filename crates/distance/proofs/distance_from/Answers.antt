@@ -1,9 +1,7 @@
 -- `distance_from` asks 14, and then adds up from the state's index on, telling no entry. Assumes nothing.
-use mathlib.Core.Path.{refl, sym, ap, ◌∙◌}
-use mathlib.Core.Bool.{false}
+use mathlib.Core.Path.{sym, ap, ◌∙◌}
 use Prim.Native.Nat.{ℕ}
 use native.Mathlib.Omega.{arith}
-use Rattle.conditions.proofs.Bools.{clash}
 use Rattle.manager.specs.declared.State.{State}
 use Rattle.plan.specs.Lent.{lent_plan}
 use Rattle.manager.specs.State.{state_of}
@@ -32,7 +30,7 @@ pub measure-left-requires : goal.measure-left-requires
 measure-left-requires c =
     let t = c.if-not-valid.false in
     let w = c.valid.ensures.1 t in
-    record { sound = sound-of (state (goal.at.measure-left-requires c).Start) (sym c.valid.ensures.0 ∙ t); le_place = ((omega (arith, w.least), omega (arith, w.least, w.most, last-is c.args.plan.now.head.count)), λ u. clash false u refl) }
+    record { sound = sound-of (state (goal.at.measure-left-requires c).Start) (sym c.valid.ensures.0 ∙ t); le_place = (omega (arith, w.least), omega (arith, w.least, w.most, last-is c.args.plan.now.head.count)) }
 
 pub returns : goal.returns
 unfolding distance_by entry_of

@@ -33,10 +33,10 @@ returns-then-table-plan c =
 pub measure-requires : goal.measure-requires
 measure-requires c =
     let h = sound-of (state (goal.at.measure-requires c).Start) (sym c.valid.ensures.0 ∙ c.if-not-valid.false) in
-    record { sound = h; le_place = ((omega arith, omega (arith, h.stands.least)), λ _. omega (arith, c.if-table-plan.false)) }
+    record { sound = h; le_place = (omega arith, omega (arith, h.stands.least)) }
 
 pub returns : goal.returns
 unfolding refusal_of table_of
 returns c =
     let e = answered (state (goal.at.returns c).Start) c.args.table.now (length c.args.table.now) (sym c.valid.ensures.0 ∙ c.if-not-valid.false) (omega (arith, c.if-table-plan.false)) in
-    record { value = ap refusal_of (sym e); table_after = c.measure.ensures.table_after ∙ told-all _ _ ∙ ap (λ (o : Outcome (List ℕ)). table_of o c.args.table.now) (sym e) }
+    record { value = ap refusal_of (sym e); table_after = c.measure.ensures.table_after (omega (arith, c.if-table-plan.false)) ∙ told-all _ _ ∙ ap (λ (o : Outcome (List ℕ)). table_of o c.args.table.now) (sym e) }
