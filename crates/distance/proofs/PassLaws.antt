@@ -16,7 +16,9 @@ use Rattle.plan.specs.declared.Plan.{Plan}
 use Rattle.plan.specs.Limits.{most_points, most_radius}
 use Rattle.plan.specs.Places.{plan_point, plan_course}
 use Rattle.plan.specs.Rules.{ends_at, tangent_at}
-use Rattle.plan.specs.Stands.{IsLevelLeg, Placed, Aiming, Long, ByMode}
+use Rattle.plan.specs.Stands.{IsLevelLeg, ByMode}
+use Rattle.plan.specs.Long.{Long}
+use Rattle.plan.specs.Lent.{PointPlaced, CourseThere}
 use Rattle.plan.proofs.FilletLegLaws.{tangent-first, tangent-corner, tangent-last}
 use Rattle.plan.proofs.StandLaws.{stands-lengths, placed-of, aiming_of}
 use Rattle.manager.specs.declared.State.{State}
@@ -38,10 +40,10 @@ module _ (p : Plan) (s : Sound p) (long : Long p.norths p.easts p.downs p.course
   below : i < most_points
   below = omega (arith, h, s.stands.most)
 
-  pub leg-placed : Placed p.norths p.easts p.downs (i - 1) × Placed p.norths p.easts p.downs i
+  pub leg-placed : PointPlaced p (i - 1) × PointPlaced p i
   leg-placed = let placed = placed-of p long s.stands.ranged in (placed (i - 1) (omega (arith, below)), placed i below)
 
-  pub leg-aimed : p.head.mode ≡ Dubins → (Aiming p.courses (i - 1) × Aiming p.courses i) × (p.head.radius ≤ most_radius)
+  pub leg-aimed : p.head.mode ≡ Dubins → (CourseThere p (i - 1) × CourseThere p i) × (p.head.radius ≤ most_radius)
   leg-aimed m =
       let d : ByMode Dubins p = subst (λ (x : Mode). ByMode x p) m s.stands.mode in
       let aiming = aiming_of p long d.1.0 in
@@ -54,7 +56,7 @@ module _ (p : Plan) (s : Sound p) (long : Long p.norths p.easts p.downs p.course
     pub rounding-radius : p.head.radius ≤ most_radius
     rounding-radius = rounds.0
 
-    pub corner-there : 2 ≤ i → CornerThere p.norths p.easts p.downs i
+    pub corner-there : 2 ≤ i → CornerThere p i
     corner-there k =
         let placed = placed-of p long s.stands.ranged in
         let a : i - 1 - 1 ≡ i - 2 = omega arith in
@@ -67,7 +69,7 @@ module _ (p : Plan) (s : Sound p) (long : Long p.norths p.easts p.downs p.course
 
 -- the last leg
 pub last-placed : (p : Plan) → Sound p → Long p.norths p.easts p.downs p.courses
-    → (2 ≤ p.head.count) × (Placed p.norths p.easts p.downs (p.head.count - 2) × Placed p.norths p.easts p.downs (p.head.count - 2 + 1))
+    → (2 ≤ p.head.count) × (PointPlaced p (p.head.count - 2) × PointPlaced p (p.head.count - 2 + 1))
 last-placed p s long =
     let placed = placed-of p long s.stands.ranged in
     let l = s.stands.least in

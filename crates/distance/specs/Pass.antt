@@ -1,16 +1,16 @@
 -- No clause: what the pass from the last leg to the first relies on, and what it carries from leg to leg. For proofs alone: no contract of a public
 -- function cites it. Assumes nothing.
-use Rattle.std.specs.Prelude.{◌≡◌, Bool, List, ℕ, ◌+◌, ◌-◌, ◌*◌, ◌≤◌, ◌<◌, ℤ}
-use Rattle.conditions.specs.Choose.{choose}
+use Rattle.std.specs.Prelude.{◌≡◌, List, ℕ, ◌+◌, ◌-◌, ◌*◌, ◌≤◌, ◌<◌}
 use Rattle.buffers.specs.Splice.{splice}
 use Rattle.plane.specs.declared.Point.{Point}
 use Rattle.fillets.specs.Corners.{corner_turn}
 use Rattle.plan.specs.declared.Mode.TheVariants.{Fillets}
 use Rattle.plan.specs.declared.Plan.{Plan}
 use Rattle.plan.specs.Limits.{most_turn}
-use Rattle.plan.specs.Places.{place_at, plan_point}
+use Rattle.plan.specs.Places.{plan_point}
 use Rattle.plan.specs.Rules.{tangent_at}
-use Rattle.plan.specs.Stands.{Placed, IsLevelLeg, Stands}
+use Rattle.plan.specs.Stands.{IsLevelLeg, Stands}
+use Rattle.plan.specs.Lent.{PointPlaced}
 use Rattle.distance.specs.declared.Rounding.{Rounding}
 use Rattle.distance.specs.declared.Carry.{Carry}
 use Rattle.distance.specs.Lengths.{total, level_length, corner_arc, plan_length}
@@ -23,10 +23,10 @@ pub record Sound (p : Plan) : Type 0 where
       → tangent_at p.head.radius p.head.count (plan_point p) (i - 1) + tangent_at p.head.radius p.head.count (plan_point p) i ≤ level_length (plan_point p) i
 
 -- the corner at the start of the leg that ends at place i, where it has one
-pub record CornerThere (norths easts downs : List ℤ) (i : ℕ) : Type 0 where
-  pub before : Placed norths easts downs (i - 2)
-  pub corner : Placed norths easts downs (i - 2 + 1)
-  pub turn : corner_turn (place_at norths easts downs (i - 2)) (place_at norths easts downs (i - 1)) (place_at norths easts downs i) ≤ most_turn
+pub record CornerThere (p : Plan) (i : ℕ) : Type 0 where
+  pub before : PointPlaced p (i - 2)
+  pub corner : PointPlaced p (i - 2 + 1)
+  pub turn : corner_turn (plan_point p (i - 2)) (plan_point p (i - 1)) (plan_point p i) ≤ most_turn
 
 -- the corner at place i of n points, and the leg to it
 pub record Rounded (R n : ℕ) (at : ℕ → Point) (i : ℕ) (r : Rounding) : Type 0 where
@@ -42,6 +42,6 @@ pub record AddedUp (p : Plan) (i : ℕ) (c : Carry) : Type 0 where
   pub most : c.left ≤ 3000000 * (p.head.count - 1 - i)
   pub corner : p.head.mode ≡ Fillets → Rounded p.head.radius p.head.count (plan_point p) i c.corner
 
--- a table into which the entries from the leg that ends at place i on are told, or are not
-unfoldable pub told_from : Bool → Plan → ℕ → List ℕ → List ℕ
-told_from told p i table = choose told (splice (i + 1) (entries_from p (p.head.count - i) (i + 1)) table) table
+-- a table into which the entries from the leg that ends at place i on are told
+unfoldable pub told_from : Plan → ℕ → List ℕ → List ℕ
+told_from p i table = splice (i + 1) (entries_from p (p.head.count - i) (i + 1)) table

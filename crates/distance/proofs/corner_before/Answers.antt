@@ -3,7 +3,8 @@ use mathlib.Core.Path.{sym, subst}
 use Prim.Native.Nat.{ℕ, ◌≤◌}
 use native.Mathlib.Omega.{arith}
 use Rattle.plan.specs.Limits.{most_turn}
-use Rattle.plan.specs.Places.{place_at}
+use Rattle.plan.specs.Places.{plan_point}
+use Rattle.plan.specs.Lent.{lent_plan}
 use Rattle.distance.proofs.PassLaws.{first-rounded, corner-turn, corner-rounded}
 use Rattle.distance.proofs.corner_before.Goals as goal
 
@@ -15,12 +16,12 @@ level_leg_at-before-requires c = let h = c.requires.corner_there c.if-i-lt2.fals
 
 pub tangent_length-tangent-requires : goal.tangent_length-tangent-requires
 tangent_length-tangent-requires c =
-    let at = place_at c.args.norths.now c.args.easts.now c.args.downs.now in
+    let at = plan_point (lent_plan c.args.plan.now) in
     let g = corner-turn at c.args.i c.level_leg_at-before.result c.args.leg c.lesser_turn-turn.result c.if-i-lt2.false c.level_leg_at-before.ensures c.requires.le_i.1.1 c.lesser_turn-turn.ensures.0 in
-    (c.requires.le_i.1.0, subst (λ (n : ℕ). n ≤ most_turn) (sym g) (c.requires.corner_there c.if-i-lt2.false).turn)
+    (rw c.from-radius.ensures c.requires.le_i.1.0, subst (λ (n : ℕ). n ≤ most_turn) (sym g) (c.requires.corner_there c.if-i-lt2.false).turn)
 
 pub returns : goal.returns
 returns c n h =
-    let at = place_at c.args.norths.now c.args.easts.now c.args.downs.now in
-    corner-rounded c.args.radius n at c.args.i c.level_leg_at-before.result c.args.leg c.lesser_turn-turn.result c.if-i-lt2.false h c.level_leg_at-before.ensures c.requires.le_i.1.1 c.lesser_turn-turn.ensures.0
-    _ _ c.arc-arc.ensures.0 c.arc-arc.ensures.1 c.tangent_length-tangent.ensures.value
+    let p = lent_plan c.args.plan.now in
+    corner-rounded p.head.radius n (plan_point p) c.args.i c.level_leg_at-before.result c.args.leg c.lesser_turn-turn.result c.if-i-lt2.false h c.level_leg_at-before.ensures c.requires.le_i.1.1
+    c.lesser_turn-turn.ensures.0 _ _ (rw c.from-radius.ensures at c.arc-arc.ensures.0) c.arc-arc.ensures.1 (rw c.from-radius.ensures at c.tangent_length-tangent.ensures.value)

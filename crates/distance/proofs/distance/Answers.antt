@@ -4,4 +4,4 @@ use Rattle.distance.proofs.KeptLaws.{table_kept, told-at-the-load}
 use Rattle.distance.proofs.distance.Goals as goal
 
 pub returns : goal.returns
-returns c = (c.distance_from.ensures, (at-index, told-at-the-load table_kept at-index))
+returns c = (rw c.lent.ensures at c.distance_from.ensures, (at-index, told-at-the-load table_kept at-index))

@@ -1,11 +1,10 @@
 -- `distance_from` asks 14, and then adds up from the state's index on, telling no entry. Assumes nothing.
-use mathlib.Core.Path.{refl, sym, ap, ◌∙◌}
-use mathlib.Core.Bool.{false}
+use mathlib.Core.Path.{sym, ap, ◌∙◌}
 use Prim.Native.Nat.{ℕ}
 use native.Mathlib.Omega.{arith}
-use Rattle.conditions.proofs.Bools.{clash}
 use Rattle.manager.specs.declared.State.{State}
-use Rattle.manager.specs.State.{viewed}
+use Rattle.plan.specs.Lent.{lent_plan}
+use Rattle.manager.specs.State.{state_of}
 use Rattle.manager.proofs.StateLaws.{last-is}
 use Rattle.distance.specs.Lengths.{entry_of}
 use Rattle.distance.specs.Table.{distance_by}
@@ -15,7 +14,7 @@ use Rattle.distance.proofs.distance_from.Goals as goal
 use Rattle.distance.proofs.distance_from.Goals.{Start}
 
 abbrev state : Start → State
-state s = viewed s.args.head s.args.progress s.args.norths.now s.args.easts.now s.args.downs.now s.args.courses.now
+state s = state_of (lent_plan s.args.plan.now) s.args.progress
 
 pub returns-then-not-valid : goal.returns-then-not-valid
 unfolding distance_by
@@ -31,7 +30,7 @@ pub measure-left-requires : goal.measure-left-requires
 measure-left-requires c =
     let t = c.if-not-valid.false in
     let w = c.valid.ensures.1 t in
-    record { long = (c.requires, sound-of (state (goal.at.measure-left-requires c).Start) (sym c.valid.ensures.0 ∙ t)); le_place = ((omega (arith, w.least), omega (arith, w.least, w.most, last-is c.args.head.count)), λ u. clash false u refl) }
+    record { sound = sound-of (state (goal.at.measure-left-requires c).Start) (sym c.valid.ensures.0 ∙ t); le_place = (omega (arith, w.least), omega (arith, w.least, w.most, last-is c.args.plan.now.head.count)) }
 
 pub returns : goal.returns
 unfolding distance_by entry_of

@@ -19,10 +19,11 @@ owed s before e = ((subst (Summary s before) (sym e) (summary s before), one_tab
 
 pub returns : goal.returns
 returns c =
-    let o = owed _ _ c.distances_from.ensures.table_after in
+    let e = rw c.lent.ensures at c.distances_from.ensures.table_after in
+    let o = owed _ _ e in
     record {
-      value = c.distances_from.ensures.value;
-      table_after = c.distances_from.ensures.table_after;
+      value = rw c.lent.ensures at c.distances_from.ensures.value;
+      table_after = e;
       summary = o.0;
       table_kept = o.1;
     }

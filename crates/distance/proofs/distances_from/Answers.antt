@@ -6,7 +6,8 @@ use lib.ListN.{length}
 use native.Mathlib.Omega.{arith}
 use Rattle.refusals.specs.Outcome.{Outcome, refusal_of}
 use Rattle.manager.specs.declared.State.{State}
-use Rattle.manager.specs.State.{viewed}
+use Rattle.plan.specs.Lent.{lent_plan}
+use Rattle.manager.specs.State.{state_of}
 use Rattle.distance.specs.Table.{table_of}
 use Rattle.distance.proofs.PassLaws.{sound-of}
 use Rattle.distance.proofs.TableLaws.{told-all}
@@ -15,7 +16,7 @@ use Rattle.distance.proofs.distances_from.Goals as goal
 use Rattle.distance.proofs.distances_from.Goals.{Start}
 
 abbrev state : Start → State
-state s = viewed s.args.head s.args.progress s.args.norths.now s.args.easts.now s.args.downs.now s.args.courses.now
+state s = state_of (lent_plan s.args.plan.now) s.args.progress
 
 pub returns-then-not-valid : goal.returns-then-not-valid
 unfolding refusal_of table_of
@@ -23,19 +24,19 @@ returns-then-not-valid c =
     let e = refused-state (state (goal.at.returns-then-not-valid c).Start) c.args.table.now (length c.args.table.now) (sym c.valid.ensures.0 ∙ c.if-not-valid.true) in
     record { value = ap refusal_of (sym e); table_after = ap (λ (o : Outcome (List ℕ)). table_of o c.args.table.now) (sym e) }
 
-pub returns-then-table-head : goal.returns-then-table-head
+pub returns-then-table-plan : goal.returns-then-table-plan
 unfolding refusal_of table_of
-returns-then-table-head c =
-    let e = refused-room (state (goal.at.returns-then-table-head c).Start) c.args.table.now (length c.args.table.now) (sym c.valid.ensures.0 ∙ c.if-not-valid.false) (omega (arith, c.if-table-head.true)) in
+returns-then-table-plan c =
+    let e = refused-room (state (goal.at.returns-then-table-plan c).Start) c.args.table.now (length c.args.table.now) (sym c.valid.ensures.0 ∙ c.if-not-valid.false) (omega (arith, c.if-table-plan.true)) in
     record { value = ap refusal_of (sym e); table_after = ap (λ (o : Outcome (List ℕ)). table_of o c.args.table.now) (sym e) }
 
 pub measure-requires : goal.measure-requires
 measure-requires c =
     let h = sound-of (state (goal.at.measure-requires c).Start) (sym c.valid.ensures.0 ∙ c.if-not-valid.false) in
-    record { long = (c.requires, h); le_place = ((omega arith, omega (arith, h.stands.least)), λ _. omega (arith, c.if-table-head.false)) }
+    record { sound = h; le_place = (omega arith, omega (arith, h.stands.least)) }
 
 pub returns : goal.returns
 unfolding refusal_of table_of
 returns c =
-    let e = answered (state (goal.at.returns c).Start) c.args.table.now (length c.args.table.now) (sym c.valid.ensures.0 ∙ c.if-not-valid.false) (omega (arith, c.if-table-head.false)) in
-    record { value = ap refusal_of (sym e); table_after = c.measure.ensures.table_after ∙ told-all _ _ ∙ ap (λ (o : Outcome (List ℕ)). table_of o c.args.table.now) (sym e) }
+    let e = answered (state (goal.at.returns c).Start) c.args.table.now (length c.args.table.now) (sym c.valid.ensures.0 ∙ c.if-not-valid.false) (omega (arith, c.if-table-plan.false)) in
+    record { value = ap refusal_of (sym e); table_after = c.measure.ensures.table_after (omega (arith, c.if-table-plan.false)) ∙ told-all _ _ ∙ ap (λ (o : Outcome (List ℕ)). table_of o c.args.table.now) (sym e) }

@@ -5,6 +5,12 @@ use Rattle.plan.proofs.PlaceLaws.{area-at}
 use Rattle.distance.specs.Lengths.{level_length}
 use Rattle.distance.proofs.level_length.Goals as goal
 
+pub point_at-a-requires : goal.point_at-a-requires
+point_at-a-requires c = c.requires.1.0.there
+
+pub point_at-b-requires : goal.point_at-b-requires
+point_at-b-requires c = c.requires.1.1.there
+
 pub level_leg-requires : goal.level_leg-requires
 level_leg-requires c =
     let h = c.requires.1 in

@@ -1,13 +1,12 @@
--- What the loops of `measure` keep, and what falls with each round. Assumes nothing.
-use Prim.Native.Nat.{◌+◌, ◌≤◌}
-use Rattle.plan.specs.Places.{seen}
-use Rattle.distance.specs.Pass.{AddedUp}
-use Rattle.distance.proofs.TableLaws.{Written}
+-- What the loop of `measure` keeps. Assumes nothing.
+use Prim.Native.Nat.{◌-◌, ◌≤◌, ◌<◌}
+use mathlib.Core.Path.{◌≡◌}
+use lib.ListN.{length}
+use Rattle.plan.specs.Lent.{lent_plan}
+use Rattle.distance.specs.Pass.{AddedUp, told_from}
 use Rattle.distance.proofs.measure.Given as goal
 
 abbrev pub invariant-loop-i : goal.invariant-loop-i
 invariant-loop-i l =
-    (AddedUp (seen l.head l.norths l.easts l.downs l.courses) l.i l.carry × (l.place ≤ l.i + 1)) × Written l.told (seen l.head l.norths l.easts l.downs l.courses) l.initial.table l.i l.table
-
-abbrev pub decreases-loop-i : goal.decreases-loop-i
-decreases-loop-i l = l.i
+    let p = lent_plan l.plan in
+    (AddedUp p (l.i - 1) l.carry × (l.place ≤ l.i)) × (p.head.count < length l.initial.table → l.table ≡ told_from p l.i l.initial.table)
