@@ -7,6 +7,7 @@ ghost use Rattle.buffers.specs.Facts.{BufferFacts};
 ghost use Rattle.buffers.specs.Splice.{over, zeroed};
 
 // Zeros everywhere.
+#[tactic(auto, unfolding(crate::specs::Splice::zeroed))]
 pub fn clear(numbers: &mut [i32])
     ensures { numbers.new ≡ zeroed numbers.old }
 {
@@ -15,6 +16,7 @@ pub fn clear(numbers: &mut [i32])
 
 // One loop, which the compiler turns into the stores where the number of items is known: by `copy_from_slice` the archives for C need memmove, and
 // README promises that they need memset alone; over `zip` a proof loses what `iter_mut` lent.
+#[tactic(auto, using(crate::proofs::Anchors::buffer_facts, crate::proofs::CopyLaws::copying))]
 pub fn put<T: Copy>(items: &[T], part: &mut [T])
     requires { length items.now ≤ length part.old }
     ensures part_after { part.new ≡ over items.now part.old }

@@ -127,18 +127,8 @@ pub fn progress_at(words: &[i32]) -> Progress
     }
 }
 
-// Numbers with no sign at the front of a part.
-fn put_bits(bits: &[u32], part: &mut [i32])
-    requires { length bits.now ≤ length part.old }
-    ensures { part.new ≡ over (in_words bits.now) part.old }
-{
-    for (i, n) in bits.iter().enumerate() {
-        part[i] = integers::signed(*n);
-    }
-}
-
 // The words before the blocks.
-#[tactic(auto, using(crate::proofs::Anchors::layout))]
+#[tactic(auto, using(crate::proofs::Anchors::layout, buffers::proofs::SpliceLaws::behind))]
 pub fn put_head(head: Head, progress: Progress, words: &mut [i32])
     requires { norths_place ≤ length words.old }
     ensures words_after { words.new ≡ over (head_words head ++ progress_words progress) words.old }
@@ -149,11 +139,9 @@ pub fn put_head(head: Head, progress: Progress, words: &mut [i32])
         mode_word(head.mode),
         head.radius as u32,
         c_answer::word(head.count),
-        c_answer::word(progress.index),
-        progress.phase as u32,
-        c_answer::flag(progress.finished),
     ];
-    put_bits(&bits, words);
+    buffers::put(&bits.map(integers::signed), words);
+    put_progress(progress, words);
 }
 
 // Index, phase and finished alone.
@@ -167,5 +155,5 @@ pub fn put_progress(progress: Progress, words: &mut [i32])
         progress.phase as u32,
         c_answer::flag(progress.finished),
     ];
-    put_bits(&bits, &mut words[INDEX_PLACE..]);
+    buffers::put(&bits.map(integers::signed), &mut words[INDEX_PLACE..]);
 }

@@ -33,7 +33,7 @@ pub fn put_text(text: &[u8], at: usize, buffer: &mut [u8]) -> usize
     at + text.len()
 }
 
-// In decimal: the last digit behind those of a tenth of the number.
+// In decimal: the last digit behind those of a tenth of the number. No `write!`: it asks for a `fmt::Write` over the buffer, which is no plainer.
 pub fn put_decimal(n: u64, at: usize, buffer: &mut [u8]) -> usize
     requires { at + 20 ≤ length buffer.old }
     ensures { Wrote at (decimal_of n) buffer.old buffer.new result × (result ≤ at + 20) }

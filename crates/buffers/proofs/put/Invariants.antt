@@ -1,6 +1,7 @@
--- What the loop of `put` keeps: as many items as were reached are copied. Assumes nothing.
-use Rattle.buffers.proofs.CopyLaws.{Copying}
+-- What the loop of `put` keeps: as many items as were reached are copied, and the rest is what it was. Assumes nothing.
+use mathlib.Core.Path.{◌≡◌}
+use lib.Seq.{paste}
 use Rattle.buffers.proofs.put.Given as goal
 
 abbrev pub invariant-loop-i : goal.invariant-loop-i
-invariant-loop-i g l = Copying l.items l.initial.part l.i l.part
+invariant-loop-i g l = l.part ≡ paste l.initial.part 0 l.items l.i
