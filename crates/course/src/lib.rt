@@ -184,33 +184,6 @@ fn edge_east(j: usize) -> u64
     entry(j) as u64
 }
 
-// Whether (a, b) has reached edge j.
-fn reaches(a: u64, b: u64, j: usize) -> bool
-    requires { ((a < 2 ^ 48) × (b < 2 ^ 48)) × ((0 < j) × (j ≤ 1024)) }
-    ensures { result ≡ leb (edge_east j * a) (edge_north j * b) }
-{
-    edge_east(j) * a <= edge_north(j) * b
-}
-
-// How many of the first quarter's edges (a, b) has reached, by halving the range.
-// Kept as a loop: what is halved is a range of edges that are worked out, not a slice that the library's `partition_point` could search.
-fn edges_by_halves(a: u64, b: u64) -> usize
-    requires { (a < 2 ^ 48) × (b < 2 ^ 48) }
-    ensures { Reached a b result }
-{
-    let mut low: usize = 0;
-    let mut high: usize = 1025;
-    while low + 1 < high {
-        let middle = (low + high) / 2;
-        if reaches(a, b, middle) {
-            low = middle;
-        } else {
-            high = middle;
-        }
-    }
-    low
-}
-
 // 1,024 times the arc tangent of low / high in quarters of a circle, nearly.
 fn near_arc(low: f64, high: f64) -> f64 {
     let t = low / high;
@@ -222,48 +195,82 @@ fn near_arc(low: f64, high: f64) -> f64 {
     t * (first + v * (second + v * third))
 }
 
-// Near the last edge that (a, b) has reached. A guess, that `edges_reached` tests; only its range is promised. 2^52 - 1/2 is added to have the
-// whole number in the last bits, and 1/32 so that a vector at an edge or nearly, as along a strip of a whole unit, is not guessed one short of it.
-fn near_edge(a: u64, b: u64) -> usize
-    requires { (a < 2 ^ 48) × (b < 2 ^ 48) }
-    ensures { (1 ≤ result) × (result ≤ 1022) }
-{
-    let x = integers::float_of(a);
-    let y = integers::float_of(b);
-    let arc = if b <= a {
-        near_arc(y, x) + 0.03125
-    } else {
-        1024.03125 - near_arc(x, y)
-    };
-    let edge = (integers::bits_of(arc + 4503599627370495.5) % 2048) as usize;
-    edge.clamp(1, 1022)
+// A vector of the first quarter, north to east.
+#[derive(Clone, Copy)]
+struct Sizes {
+    north: u64,
+    east: u64,
+    ghost low: { (north < 2 ^ 48) × (east < 2 ^ 48) },
 }
 
-// How many of the first quarter's edges (a, b) has reached. Where the guess is one off, its neighbours are tried.
-fn edges_reached(a: u64, b: u64) -> usize
-    requires { (a < 2 ^ 48) × (b < 2 ^ 48) }
-    ensures { Reached a b result }
-{
-    let edge = near_edge(a, b);
-    if reaches(a, b, edge) {
-        if !reaches(a, b, edge + 1) {
-            return edge;
-        }
-        if !reaches(a, b, edge + 2) {
-            return edge + 1;
-        }
-    } else if edge == 1 || reaches(a, b, edge - 1) {
-        return edge - 1;
+impl Sizes {
+    // Whether it has reached edge j.
+    fn reaches(self, j: usize) -> bool
+        requires { (0 < j) × (j ≤ 1024) }
+        ensures { result ≡ leb (edge_east j * self.north) (edge_north j * self.east) }
+    {
+        edge_east(j) * self.north <= edge_north(j) * self.east
     }
-    edges_by_halves(a, b)
+
+    // How many of the first quarter's edges it has reached, by halving the range.
+    // Kept as a loop: what is halved is a range of edges that are worked out, not a slice that the library's `partition_point` could search.
+    fn edges_by_halves(self) -> usize
+        ensures { Reached self.north self.east result }
+    {
+        let mut low: usize = 0;
+        let mut high: usize = 1025;
+        while low + 1 < high {
+            let middle = (low + high) / 2;
+            if self.reaches(middle) {
+                low = middle;
+            } else {
+                high = middle;
+            }
+        }
+        low
+    }
+
+    // Near the last edge that it has reached. A guess, that `edges_reached` tests; only its range is promised. 2^52 - 1/2 is added to have the whole
+    // number in the last bits, and 1/32 so that a vector at an edge or nearly, as along a strip of a whole unit, is not guessed one short of it.
+    fn near_edge(self) -> usize
+        ensures { (1 ≤ result) × (result ≤ 1022) }
+    {
+        let x = integers::float_of(self.north);
+        let y = integers::float_of(self.east);
+        let arc = if self.east <= self.north {
+            near_arc(y, x) + 0.03125
+        } else {
+            1024.03125 - near_arc(x, y)
+        };
+        let edge = (integers::bits_of(arc + 4503599627370495.5) % 2048) as usize;
+        edge.clamp(1, 1022)
+    }
+
+    // How many of the first quarter's edges it has reached. Where the guess is one off, its neighbours are tried.
+    fn edges_reached(self) -> usize
+        ensures { Reached self.north self.east result }
+    {
+        let edge = self.near_edge();
+        if self.reaches(edge) {
+            if !self.reaches(edge + 1) {
+                return edge;
+            }
+            if !self.reaches(edge + 2) {
+                return edge + 1;
+            }
+        } else if edge == 1 || self.reaches(edge - 1) {
+            return edge - 1;
+        }
+        self.edges_by_halves()
+    }
 }
 
-// The bearing of (a, b) turned by q quarters.
-fn bearing_in(q: usize, a: u64, b: u64) -> usize
-    requires { (q < 4) × ((0 < a) × ((a < 2 ^ 48) × (b < 2 ^ 48))) }
-    ensures { result ≡ bearing_of (turned q (plain a b)) }
+// The bearing of a vector of the first quarter that is turned by q quarters.
+fn bearing_in(q: usize, v: Sizes) -> usize
+    requires { (q < 4) × (0 < v.north) }
+    ensures { result ≡ bearing_of (turned q (plain v.north v.east)) }
 {
-    (1024 * q + edges_reached(a, b)) % 4096
+    (1024 * q + v.edges_reached()) % 4096
 }
 
 // The bearing of v, 0 to 4095; 0 at (0, 0).
@@ -275,18 +282,20 @@ pub fn bearing(v: Vector) -> usize
     let east = v.east;
     let a = integers::magnitude(north);
     let b = integers::magnitude(east);
+    let straight = Sizes { north: a, east: b };
+    let swapped = Sizes { north: b, east: a };
     if 0 < north {
         if east < 0 {
-            bearing_in(3, b, a)
+            bearing_in(3, swapped)
         } else {
-            bearing_in(0, a, b)
+            bearing_in(0, straight)
         }
     } else if 0 < east {
-        bearing_in(1, b, a)
+        bearing_in(1, swapped)
     } else if north < 0 {
-        bearing_in(2, a, b)
+        bearing_in(2, straight)
     } else if east < 0 {
-        bearing_in(3, b, a)
+        bearing_in(3, swapped)
     } else {
         // v is (0, 0).
         0

@@ -29,7 +29,7 @@ pub fn lesser_turn(j: usize, k: usize) -> usize
     ensures { (result ≡ lesser_turn j k) × (result ≤ 2048) }
 {
     let d = (k + 4096 - j) % 4096;
-    if d <= 2048 { d } else { 4096 - d }
+    d.min(4096 - d)
 }
 
 // The turn between two legs.
@@ -51,10 +51,7 @@ pub fn turns_easily(a: Vector, b: Vector) -> bool
 {
     let ahead = 5 * plane::dot(a, b);
     let side = plane::across(a, b);
-    if side < 0 {
-        return 0 < ahead - side;
-    }
-    0 < ahead + side
+    0 < ahead + side.abs()
 }
 
 // The turn at a point between two others.

@@ -11,7 +11,7 @@ ghost use Rattle.plane.specs.Half.{dot3_of, square3_of, half_plane, HandHalves, 
 
 use course::Vector;
 
-// A point of a plan or a position, in decimetres.
+// A point of a plan or a position, in decimetres. Its bound, InArea, stays a clause and no invariant: `plan::in_area` is asked of points outside.
 #[derive(Clone, Copy)]
 pub struct Point {
     pub north: i32,
@@ -19,7 +19,7 @@ pub struct Point {
     pub down: i32,
 }
 
-// What lies from one point to another.
+// What lies from one point to another. Kept apart from Point: no function takes both, so a generic type would be plainer nowhere.
 #[derive(Clone, Copy)]
 pub struct Leg {
     pub north: i64,
@@ -39,7 +39,7 @@ pub fn leg_between(a: Point, b: Point) -> Leg
     }
 }
 
-// The point without its down part.
+// The point without its down part, which is why this is no `From`.
 pub fn level(p: Point) -> Vector
     requires { InArea p }
     ensures { (result ≡ level_of p) × Near 500000 result }
@@ -50,7 +50,7 @@ pub fn level(p: Point) -> Vector
     }
 }
 
-// b - a
+// b - a. Here and in `sum` an impl of `Sub` or `Add` would take the bounds out of the clauses, which callers cite.
 pub fn vector_between(a: Vector, b: Vector) -> Vector
     requires { Near 1000000 a × Near 1000000 b }
     ensures { (result ≡ minus b a) × Near 2000000 result }
@@ -141,7 +141,7 @@ pub fn arc(radius: u64, turns: u64) -> u64
     radius * turns * 355 / 231424
 }
 
-// a·b, in three dimensions
+// a·b, in three dimensions. Kept beside `dot`: the parts have names, and a form over their number would give them up for indices.
 pub fn dot3(a: Leg, b: Leg) -> i64
     requires { IsLeg a × IsLeg b }
     ensures { (result ≡ dot3_of a b) × Within 2040000000000 result }
@@ -165,16 +165,12 @@ fn half_plane(x: i64, y: i64, a: u64, b: u64) -> bool
 {
     let u = integers::magnitude(x);
     let v = integers::magnitude(y);
-    if 0 <= x {
-        if 0 <= y {
-            return true;
-        }
-        return integers::square_times_at_least(u, b, v, a);
+    match (0 <= x, 0 <= y) {
+        (true, true) => true,
+        (true, false) => integers::square_times_at_least(u, b, v, a),
+        (false, true) => integers::square_times_at_least(v, a, u, b),
+        (false, false) => false,
     }
-    if 0 <= y {
-        return integers::square_times_at_least(v, a, u, b);
-    }
-    false
 }
 
 // Whether d from a corner lies past its half-plane, with the legs a before it and b after it.
@@ -211,8 +207,5 @@ pub fn opposite(a: Leg, b: Leg) -> bool
     requires { IsLeg a × IsLeg b }
     ensures { result ≡ opposite_of a b }
 {
-    if dot3(a, b) < 0 {
-        return cross_size(a, b) == 0;
-    }
-    false
+    dot3(a, b) < 0 && cross_size(a, b) == 0
 }

@@ -1,8 +1,7 @@
 -- `bearing` gives the bearing of v: the signs of its parts say which quarter turn of their magnitudes it is. Assumes nothing.
 use mathlib.Core.Path.{◌≡◌, sym, ap, ◌∙◌}
 use mathlib.Core.Bool.{true, false}
-use Prim.Native.Nat.{ℕ, ◌<◌, ◌^◌}
-use native.Mathlib.Omega.{arith}
+use Prim.Native.Nat.{ℕ, ◌<◌}
 use lib.IntN.{ℤ, pos, nat_abs}
 use lib.Signed.{lt_z, ◌≤ℤ◌, ◌<ℤ◌}
 use mir.Syntax.{w64}
@@ -26,8 +25,6 @@ record Parts (n e : ℤ) (a b : ℕ) : Type 0 where
   read-e : to_z w64 (of_z w64 e) ≡ e
   size-n : a ≡ nat_abs n
   size-e : b ≡ nat_abs e
-  low-n : a < 2 ^ 48
-  low-e : b < 2 ^ 48
 
 abbrev vector_at : After-magnitude-b → Vector
 vector_at c = c.args.v
@@ -39,7 +36,7 @@ parts c =
     let re = kept w64 p.east tt in
     let an = c.magnitude-a.ensures ∙ ap nat_abs rn in
     let ae = c.magnitude-b.ensures ∙ ap nat_abs re in
-    record { read-n = rn; read-e = re; size-n = an; size-e = ae; low-n = omega (arith, an); low-e = omega (arith, ae) }
+    record { read-n = rn; read-e = re; size-n = an; size-e = ae }
 
 -- ---- the tests of the code, of a part that is read as it is
 above : (z : ℤ) → to_z w64 (of_z w64 z) ≡ z → lt_z (pos 0) (to_z w64 (of_z w64 z)) ≡ true → pos 0 <ℤ z
@@ -56,15 +53,14 @@ not-below z r t = lt_no z (pos 0) (simp r at t)
 
 -- ---- the arms of the code: v is (a, b) turned by q quarters
 record Arm (q a b : ℕ) (n e : ℤ) : Type 0 where
-  some : 0 < a
   value : bearing_of (turned q (plain a b)) ≡ bearing_of (record { north = n; east = e })
 
 module _ {n e : ℤ} {a b : ℕ} (p : Parts n e a b) where
   straight : (q : ℕ) → 0 < nat_abs n → turned q (plain (nat_abs n) (nat_abs e)) ≡ record { north = n; east = e } → Arm q a b n e
-  straight q h t = record { some = omega (arith, p.size-n); value = ap bearing_of ((λ i. turned q (plain (p.size-n i) (p.size-e i))) ∙ t) }
+  straight q h t = record { value = ap bearing_of ((λ i. turned q (plain (p.size-n i) (p.size-e i))) ∙ t) }
 
   swapped : (q : ℕ) → 0 < nat_abs e → turned q (plain (nat_abs e) (nat_abs n)) ≡ record { north = n; east = e } → Arm q b a n e
-  swapped q h t = record { some = omega (arith, p.size-e); value = ap bearing_of ((λ i. turned q (plain (p.size-e i) (p.size-n i))) ∙ t) }
+  swapped q h t = record { value = ap bearing_of ((λ i. turned q (plain (p.size-e i) (p.size-n i))) ∙ t) }
 
   arm-0 : pos 0 <ℤ n → pos 0 ≤ℤ e → Arm 0 a b n e
   arm-0 h k = straight 0 (positive-size n h) (north-east n e h k)
@@ -110,45 +106,20 @@ due-west c =
     let p = parts c.before.before.before.before in
     arm-3 p (not-below _ p.read-n c.if-north-lt0.false) (below _ p.read-e c.if-east-lt0-2.true)
 
-pub bearing_in-requires : goal.bearing_in-requires
-bearing_in-requires c =
-    let p = parts c.before.before in
-    (omega arith, ((north-of-west c).some, (p.low-e, p.low-n)))
-
-pub bearing_in-requires-else-east-lt0 : goal.bearing_in-requires-else-east-lt0
-bearing_in-requires-else-east-lt0 c =
-    let p = parts c.before.before in
-    (omega arith, ((north-to-east c).some, (p.low-n, p.low-e)))
-
-pub bearing_in-requires-then-east-gt0 : goal.bearing_in-requires-then-east-gt0
-bearing_in-requires-then-east-gt0 c =
-    let p = parts c.before.before in
-    (omega arith, ((east-to-south c).some, (p.low-e, p.low-n)))
-
-pub bearing_in-requires-then-north-lt0 : goal.bearing_in-requires-then-north-lt0
-bearing_in-requires-then-north-lt0 c =
-    let p = parts c.before.before.before in
-    (omega arith, ((south-to-west c).some, (p.low-n, p.low-e)))
-
-pub bearing_in-requires-then-east-lt0-2 : goal.bearing_in-requires-then-east-lt0-2
-bearing_in-requires-then-east-lt0-2 c =
-    let p = parts c.before.before.before.before in
-    (omega arith, ((due-west c).some, (p.low-e, p.low-n)))
-
 pub returns-then-east-lt0 : goal.returns-then-east-lt0
-returns-then-east-lt0 c = bears _ _ (c.bearing_in.ensures ∙ (north-of-west c.before).value)
+returns-then-east-lt0 c = bears _ _ (c.bearing_in.ensures ∙ (north-of-west c.before.before).value)
 
 pub returns-else-east-lt0 : goal.returns-else-east-lt0
-returns-else-east-lt0 c = bears _ _ (c.bearing_in-else-east-lt0.ensures ∙ (north-to-east c.before).value)
+returns-else-east-lt0 c = bears _ _ (c.bearing_in-else-east-lt0.ensures ∙ (north-to-east c.before.before).value)
 
 pub returns-then-east-gt0 : goal.returns-then-east-gt0
-returns-then-east-gt0 c = bears _ _ (c.bearing_in-then-east-gt0.ensures ∙ (east-to-south c.before).value)
+returns-then-east-gt0 c = bears _ _ (c.bearing_in-then-east-gt0.ensures ∙ (east-to-south c.before.before).value)
 
 pub returns-then-north-lt0 : goal.returns-then-north-lt0
-returns-then-north-lt0 c = bears _ _ (c.bearing_in-then-north-lt0.ensures ∙ (south-to-west c.before).value)
+returns-then-north-lt0 c = bears _ _ (c.bearing_in-then-north-lt0.ensures ∙ (south-to-west c.before.before).value)
 
 pub returns-then-east-lt0-2 : goal.returns-then-east-lt0-2
-returns-then-east-lt0-2 c = bears _ _ (c.bearing_in-then-east-lt0-2.ensures ∙ (due-west c.before).value)
+returns-then-east-lt0-2 c = bears _ _ (c.bearing_in-then-east-lt0-2.ensures ∙ (due-west c.before.before).value)
 
 pub returns-else-east-lt0-2 : goal.returns-else-east-lt0-2
 returns-else-east-lt0-2 c =

@@ -36,46 +36,38 @@ parts c =
 tested : (z : ℤ) (t : Bool) → to_z w64 (of_z w64 z) ≡ z → le_z (pos 0) (to_z w64 (of_z w64 z)) ≡ t → le_z (pos 0) z ≡ t
 tested z t r h = simp r at h
 
-pub returns-then-y-ge0 : goal.returns-then-y-ge0
-returns-then-y-ge0 c =
+pub returns-in-true-true : goal.returns-in-true-true
+returns-in-true-true c =
+    let s = c.args in
+    let p = parts c.before in
+    let t = c.in-true-true in
+    record { value = sym (both-met s.x s.y s.a s.b (tested s.x true p.read-x t.is-0) (tested s.y true p.read-y t.is-1)); hand_halves = hand-halves }
+
+pub returns-in-true-false : goal.returns-in-true-false
+returns-in-true-false c =
     let s = c.args in
     let p = parts c.before.before in
-    record { value = sym (both-met s.x s.y s.a s.b (tested s.x true p.read-x c.if-x-ge0.true) (tested s.y true p.read-y c.if-y-ge0.true)); hand_halves = hand-halves }
-
-pub square_times_at_least-requires : goal.square_times_at_least-requires
-square_times_at_least-requires c =
-    let p = parts c.before.before in
-    let q = c.requires.1 in
-    (p.low_x, (omega arith, (p.low-y, omega arith)))
-
-pub returns-then-x-ge0 : goal.returns-then-x-ge0
-returns-then-x-ge0 c =
-    let s = c.args in
-    let p = parts c.before.before.before in record {
+    let t = c.in-true-false in record {
       value = c.square_times_at_least.ensures
           ∙ (λ i. leb (p.size-y i * p.size-y i * s.a) (p.size-x i * p.size-x i * s.b))
-          ∙ sym (y-negative s.x s.y s.a s.b (tested s.x true p.read-x c.if-x-ge0.true) (tested s.y false p.read-y c.if-y-ge0.false));
+          ∙ sym (y-negative s.x s.y s.a s.b (tested s.x true p.read-x t.is-0) (tested s.y false p.read-y t.is-1));
       hand_halves = hand-halves;
     }
 
-pub square_times_at_least-requires-then-y-ge0-2 : goal.square_times_at_least-requires-then-y-ge0-2
-square_times_at_least-requires-then-y-ge0-2 c =
-    let p = parts c.before.before in
-    let q = c.requires.1 in
-    (p.low-y, (omega arith, (p.low_x, omega arith)))
-
-pub returns-then-y-ge0-2 : goal.returns-then-y-ge0-2
-returns-then-y-ge0-2 c =
+pub returns-in-false-true : goal.returns-in-false-true
+returns-in-false-true c =
     let s = c.args in
-    let p = parts c.before.before.before in record {
-      value = c.square_times_at_least-then-y-ge0-2.ensures
+    let p = parts c.before.before in
+    let t = c.in-false-true in record {
+      value = c.square_times_at_least-in-false-true.ensures
           ∙ (λ i. leb (p.size-x i * p.size-x i * s.b) (p.size-y i * p.size-y i * s.a))
-          ∙ sym (x-negative s.x s.y s.a s.b (tested s.x false p.read-x c.if-x-ge0.false) (tested s.y true p.read-y c.if-y-ge0-2.true));
+          ∙ sym (x-negative s.x s.y s.a s.b (tested s.x false p.read-x t.is-0) (tested s.y true p.read-y t.is-1));
       hand_halves = hand-halves;
     }
 
-pub returns : goal.returns
-returns c =
+pub returns-in-false-false : goal.returns-in-false-false
+returns-in-false-false c =
     let s = c.args in
-    let p = parts c.before.before in
-    record { value = sym (none-met s.x s.y s.a s.b (tested s.x false p.read-x c.if-x-ge0.false) (tested s.y false p.read-y c.if-y-ge0-2.false)); hand_halves = hand-halves }
+    let p = parts c.before in
+    let t = c.in-false-false in
+    record { value = sym (none-met s.x s.y s.a s.b (tested s.x false p.read-x t.is-0) (tested s.y false p.read-y t.is-1)); hand_halves = hand-halves }

@@ -26,9 +26,9 @@ returns-then-dot3-lt0 c =
     let p : lt_z (dot3_of s.a s.b) (pos 0) ≡ true = let d = c.dot3.ensures in sym (ap (λ (z : ℤ). lt_z z (pos 0)) (kept w64 d.1 tt ∙ d.0)) ∙ c.if-dot3-lt0.true in
     ap (λ (n : ℕ). eqb n 0) c.cross_size.ensures ∙ sym (last-true (eqb (cross_size s.a s.b) 0) (lt_z (dot3_of s.a s.b) (pos 0)) p)
 
-pub returns : goal.returns
+pub returns-else-dot3-lt0 : goal.returns-else-dot3-lt0
 unfolding opposite_of
-returns c =
+returns-else-dot3-lt0 c =
     let s = c.args in
     let p : lt_z (dot3_of s.a s.b) (pos 0) ≡ false = let d = c.dot3.ensures in sym (ap (λ (z : ℤ). lt_z z (pos 0)) (kept w64 d.1 tt ∙ d.0)) ∙ c.if-dot3-lt0.false in
-    sym (last-false (eqb (cross_size s.a s.b) 0) (lt_z (dot3_of s.a s.b) (pos 0)) p)
+    c.if-dot3-lt0.false ∙ sym (last-false (eqb (cross_size s.a s.b) 0) (lt_z (dot3_of s.a s.b) (pos 0)) p)

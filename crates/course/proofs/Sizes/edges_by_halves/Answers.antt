@@ -4,7 +4,7 @@ use Prim.Native.Nat.{ℕ, suc, ◌*◌, ◌<◌, ◌≤◌}
 use native.Mathlib.Omega.{arith}
 use borrow.Author.Tests.{leb-true, leb-false}
 use Rattle.course.specs.Bearing.{edge_north, edge_east}
-use Rattle.course.proofs.edges_by_halves.Goals as goal
+use Rattle.course.proofs.Sizes.edges_by_halves.Goals as goal
 
 pub loop-low-init : goal.loop-low-init
 loop-low-init c = record { order = omega arith; most = omega arith; from = λ (h : 1 ≤ 0). absurd (omega arith); upto = λ (h : 1025 ≤ 1024). absurd (omega arith) }
@@ -14,9 +14,6 @@ overflow_add-low c = omega arith
 
 pub overflow_add-middle : goal.overflow_add-middle
 overflow_add-middle c = omega arith
-
-pub reaches-requires : goal.reaches-requires
-reaches-requires c = (c.requires, (omega arith, omega arith))
 
 pub loop-low-smaller-then-reaches : goal.loop-low-smaller-then-reaches
 loop-low-smaller-then-reaches c = omega arith
@@ -49,5 +46,5 @@ returns c =
     record {
       most = omega arith;
       from = l.invariant.from;
-      upto = λ (h : l.low < 1024). subst (λ (m : ℕ). edge_north m * s.b < edge_east m * s.a) {x = l.high} {y = suc l.low} (omega arith) (l.invariant.upto (omega arith));
+      upto = λ (h : l.low < 1024). subst (λ (m : ℕ). edge_north m * s.self.east < edge_east m * s.self.north) {x = l.high} {y = suc l.low} (omega arith) (l.invariant.upto (omega arith));
     }

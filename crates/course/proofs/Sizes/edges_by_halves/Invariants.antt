@@ -1,7 +1,7 @@
 -- What the loops of `edges_by_halves` keep, and what falls with each round. Assumes nothing.
 use Prim.Native.Nat.{ℕ, ◌-◌, ◌*◌, ◌<◌, ◌≤◌}
 use Rattle.course.specs.Bearing.{edge_north, edge_east}
-use Rattle.course.proofs.edges_by_halves.Given as goal
+use Rattle.course.proofs.Sizes.edges_by_halves.Given as goal
 
 pub record Inv (a b low high : ℕ) : Type 0 where
   pub order : low < high
@@ -10,7 +10,7 @@ pub record Inv (a b low high : ℕ) : Type 0 where
   pub upto : high ≤ 1024 → edge_north high * b < edge_east high * a
 
 abbrev pub invariant-loop-low : goal.invariant-loop-low
-invariant-loop-low l = Inv l.a l.b l.low l.high
+invariant-loop-low l = Inv l.self.north l.self.east l.low l.high
 
 abbrev pub decreases-loop-low : goal.decreases-loop-low
 decreases-loop-low l = l.high - l.low
