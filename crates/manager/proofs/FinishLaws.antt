@@ -1,4 +1,5 @@
 -- A flight of any mode can be finished, and stays so: `Finishes` holds of every state and fix. Assumes nothing.
+use Rattle.std.proofs.Common.{Option}
 use mathlib.Core.Path.{◌≡◌, refl, sym, ap, ◌∙◌}
 use mathlib.Core.Bool.{Bool, true, false}
 use Prim.Native.Nat.{ℕ, ◌-◌, ◌<◌}
@@ -12,7 +13,7 @@ use Rattle.plane.specs.declared.Point.{Point}
 use Rattle.units.specs.declared.Fix.{Fix}
 use Rattle.units.specs.declared.Position.TheVariants.{At}
 use Rattle.units.specs.Position.{position_of}
-use Rattle.dubins.specs.declared.Found.{Found}
+use Rattle.dubins.specs.declared.Path.{Path}
 use Rattle.dubins.specs.Choice.{shortest_of}
 use Rattle.guidance.specs.Guide.{leg_guide, last_leg_guide, circle_guide, dubins_guide}
 use Rattle.guidance.proofs.EndLaws.{ended-there, phase-5-there}
@@ -65,7 +66,7 @@ unfolding path_guide dubins_guide circle_guide choose
 path-passed s v e =
     let ends = ends_of s.plan s.progress.index in
     let found = valid-path s v e in
-    ap (λ (f : Found). (path_guide ends 5 ends.end f).passed) found.1 ∙ phase-5-there ends.end ends.arrive
+    ap (λ (f : Option Path). (path_guide ends 5 ends.end f).passed) found.1 ∙ phase-5-there ends.end ends.arrive
 
 by_mode : {A : Type 0} (m : Mode) → (m ≡ Lines → A) → (m ≡ Fillets → A) → (m ≡ Dubins → A) → A
 by_mode Lines l f d = l refl

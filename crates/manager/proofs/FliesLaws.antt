@@ -1,4 +1,5 @@
 -- A valid state flies: `Flies` holds of every state and fix. Assumes nothing.
+use Rattle.std.proofs.Common.{Option}
 use mathlib.Core.Path.{◌≡◌, refl, sym, subst}
 use mathlib.Core.Bool.{Bool, true, false}
 use Prim.Native.Nat.{ℕ, ◌-◌}
@@ -13,7 +14,7 @@ use Rattle.units.specs.declared.Fix.{Fix}
 use Rattle.units.specs.declared.Position.{Position}
 use Rattle.units.specs.declared.Position.TheVariants.{At, Nowhere}
 use Rattle.units.specs.Position.{position_of}
-use Rattle.dubins.specs.declared.Found.{Found}
+use Rattle.dubins.specs.declared.Path.{Path}
 use Rattle.guidance.specs.declared.Guidance.{Guidance}
 use Rattle.guidance.specs.Commands.{PlainCommand, HasCommand, IsCommand}
 use Rattle.guidance.proofs.CommandLaws.{line-guide-command, last-leg-command, fillet-command, dubins-command}
@@ -57,7 +58,7 @@ module _ (s : State) (v : Valid s) (p : Point) where
   command-by Dubins e =
       let found = valid-path s v e in
       let h : ByMode Dubins s.plan = subst (λ (m : Mode). ByMode m s.plan) e v.stands.mode in
-      subst (λ (f : Found). IsCommand (path_guide (ends_of s.plan i) s.progress.phase p f).command) (sym found.1)
+      subst (λ (f : Option Path). IsCommand (path_guide (ends_of s.plan i) s.progress.phase p f).command) (sym found.1)
       (dubins-command (ends_of s.plan i) start-in end-in h.0 found.0 s.progress.phase p found.1)
 
   guided : IsCommand (guide_here s p).command

@@ -1,5 +1,6 @@
 -- What a valid state gives: its index is a place of the plan, the points there are in its numbers and in the area, a fillet corner turns at most
 -- 1,792, and a Dubins leg has a path. Where the last leg and the last phase are. Assumes nothing.
+use Rattle.std.proofs.Common.{Some}
 use mathlib.Core.Path.{◌≡◌, refl, ◌∙◌, subst}
 use mathlib.Core.Bool.{true, false}
 use Prim.Native.Nat.{ℕ, ◌+◌, ◌-◌, ◌≤◌, ◌<◌}
@@ -10,7 +11,6 @@ use Rattle.conditions.specs.Both.{both}
 use Rattle.conditions.proofs.Bools.{by_bool, both_first, both-second}
 use Rattle.fillets.specs.Corners.{corner_turn}
 use Rattle.dubins.specs.declared.Path.{Path}
-use Rattle.dubins.specs.declared.Found.TheVariants.{Shortest}
 use Rattle.dubins.specs.Choice.{shortest_of, has_path_of}
 use Rattle.dubins.proofs.ShortestLaws.{found-when}
 use Rattle.plan.specs.declared.Mode.{Mode}
@@ -136,7 +136,7 @@ module _ (s : State) (v : Valid s) where
       let before : i - 1 - 1 ≡ i - 2 = omega arith in
       rw before at (h.1.1 (i - 1) (omega arith) (omega arith))
 
-  pub valid-path : s.plan.head.mode ≡ Dubins → (path : Path) × (shortest_of (ends_of s.plan s.progress.index) ≡ Shortest path)
+  pub valid-path : s.plan.head.mode ≡ Dubins → (path : Path) × (shortest_of (ends_of s.plan s.progress.index) ≡ Some path)
   valid-path e = found-when (ends_of s.plan s.progress.index) (has-path e)
 
   -- ---- what is read at the index, where all numbers are there

@@ -1,6 +1,6 @@
 -- Clauses 6.3, 7.15, 8.3, 9.2, 9.3, 9.6, 9.7, 10.4, 11.7, 12.1, 12.9, 12.10, 13.1, 13.2, 13.4, 15.1, 15.3, 15.5, 15.7, 18.2: one fix, for a
 -- state of any mode. Assumes nothing.
-use Rattle.std.specs.Prelude.{Bool, true, false, ℕ, ◌+◌, ◌-◌, eqb, ltb}
+use Rattle.std.specs.Prelude.{Bool, true, false, ℕ, ◌+◌, ◌-◌, eqb, ltb, Option, Some, None}
 use Rattle.conditions.specs.Choose.{choose}
 use Rattle.refusals.specs.Numbers.{no_position, no_state, other_serial}
 use Rattle.plane.specs.declared.Point.{Point}
@@ -9,8 +9,7 @@ use Rattle.units.specs.declared.Position.{Position}
 use Rattle.units.specs.declared.Position.TheVariants.{At, Nowhere}
 use Rattle.units.specs.Position.{position_of}
 use Rattle.dubins.specs.declared.Ends.{Ends}
-use Rattle.dubins.specs.declared.Found.{Found}
-use Rattle.dubins.specs.declared.Found.TheVariants.{Shortest, Missing}
+use Rattle.dubins.specs.declared.Path.{Path}
 use Rattle.dubins.specs.Choice.{shortest_of}
 use Rattle.guidance.specs.declared.Guidance.{Guidance}
 use Rattle.guidance.specs.declared.Command.TheVariants.{Nothing}
@@ -31,9 +30,9 @@ abbrev pub ends_of : Plan → ℕ → Ends
 ends_of plan i = ends_at plan.head.radius (plan_point plan) (plan_course plan) (i - 2) (i - 1)
 
 -- its guidance by the path that was worked out. A leg of a valid state has one (the law valid-path of proofs/StateLaws).
-unfoldable pub path_guide : Ends → ℕ → Point → Found → Guidance
-path_guide ends phase p (Shortest path) = dubins_guide ends path phase p
-path_guide ends phase p Missing = record { command = Nothing; heading = 0; passed = false }
+unfoldable pub path_guide : Ends → ℕ → Point → Option Path → Guidance
+path_guide ends phase p (Some path) = dubins_guide ends path phase p
+path_guide ends phase p None = record { command = Nothing; heading = 0; passed = false }
 
 -- 9.2: what each mode does at index i, with the points i−1, i and i+1. 13.2: the last leg has no point after it; lines and fillets have a rule
 -- of their own there, fillets in north and east.

@@ -19,7 +19,7 @@ ghost use Rattle.manager.specs.Finish.{Finishes};
 ghost use Rattle.manager.specs.LastLeg.{LastLeg};
 ghost use Rattle.manager.specs.Flies.{Flies};
 
-use dubins::{Ends, Found};
+use dubins::Ends;
 use guidance::{Command, Guidance};
 use plan::{Head, Mode, Plan};
 use plane::Point;
@@ -196,8 +196,8 @@ fn path_guide(ends: Ends, phase: u8, at: Point) -> Guidance
     ensures { (result ≡ path_guide ends phase at (shortest_of ends)) × (result.heading < 4096) }
 {
     match dubins::shortest_path(ends) {
-        Found::Shortest(path) => guidance::dubins_guide(ends, path, phase, at),
-        Found::Missing => Guidance {
+        Some(path) => guidance::dubins_guide(ends, path, phase, at),
+        None => Guidance {
             command: Command::Nothing,
             heading: 0,
             passed: false,

@@ -7,16 +7,16 @@ use Rattle.manager.proofs.path_guide.Goals as goal
 
 pub dubins_guide-requires : goal.dubins_guide-requires
 dubins_guide-requires c =
-    (c.requires.0, (subst IsFound c.in-Shortest.is c.shortest_path.ensures.found, c.requires.1))
+    (c.requires.0, (subst IsFound c.in-Some.is c.shortest_path.ensures.found, c.requires.1))
 
-pub returns-in-Shortest : goal.returns-in-Shortest
+pub returns-in-Some : goal.returns-in-Some
 unfolding path_guide
-returns-in-Shortest c =
-    let e = sym c.shortest_path.ensures.value ∙ c.in-Shortest.is in
+returns-in-Some c =
+    let e = sym c.shortest_path.ensures.value ∙ c.in-Some.is in
     rw e c.dubins_guide.ensures
 
-pub returns-in-Missing : goal.returns-in-Missing
+pub returns-in-None : goal.returns-in-None
 unfolding path_guide
-returns-in-Missing c =
-    let e = sym c.shortest_path.ensures.value ∙ c.in-Missing.is in
+returns-in-None c =
+    let e = sym c.shortest_path.ensures.value ∙ c.in-None.is in
     rw e (refl, omega arith)
