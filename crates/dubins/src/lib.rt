@@ -49,6 +49,7 @@ impl Case {
 }
 
 // The ends of a leg: its points, the courses to leave and to arrive on, the radius of the circles.
+// Their bounds stand in clauses, as `IsEnds`, and not in the type: the definition `ends_at` (plan/specs/Rules) makes the ends of a leg of any plan.
 #[derive(Clone, Copy)]
 pub struct Ends {
     pub start: Point,
