@@ -3,7 +3,7 @@
 use Rattle.std.proofs.Common.{Option, Some, None}
 use mathlib.Core.Path.{◌≡◌, refl, sym, ap, ◌∙◌, subst}
 use mathlib.Core.Bool.{Bool, true, false, true≢false, ◌||◌}
-use Prim.Native.Nat.{ℕ, suc, ◌≤◌, ◌<◌}
+use Prim.Native.Nat.{ℕ, suc, ◌≤◌, ◌<◌, min}
 use native.Mathlib.Omega.{arith}
 use native.Mathlib.Decide.{dec_lt}
 use lib.Dec.{leb}
@@ -51,15 +51,22 @@ module _ (f : Option Path) (best : ℕ) (k : Measures f best) (c : Option Path) 
   measures-absent h = subst (λ (x : Option Path). Measures (shorter_of f x) best) (sym h) k
 
   module _ (p : Path) (there : c ≡ Some p) where
-    pub measures-kept : (m : ℕ) → m < no_length → best ≤ m → m ≤ p.length → Measures (shorter_of f c) best
+    measures-kept : (m : ℕ) → m < no_length → best ≤ m → m ≤ p.length → Measures (shorter_of f c) best
     measures-kept m b h l = subst (λ (x : Option Path). Measures (shorter_of f x) best) (sym there) (subst (λ (x : Option Path). Measures x best) (sym (earlier-stays f best k p m b h l)) k)
 
-    pub measures-taken : (length : ℕ) → length ≡ p.length → length < no_length → length < best → Measures (shorter_of f c) length
+    measures-taken : (length : ℕ) → length ≡ p.length → length < no_length → length < best → Measures (shorter_of f c) length
     measures-taken length e b h = subst (λ (x : Option Path). Measures (shorter_of f x) length) (sym there) (subst (λ (x : Option Path). Measures x length) (sym (takes f k)) (e, b))
       where
         takes : (g : Option Path) → Measures g best → shorter_of g (Some p) ≡ Some p
         takes None i = only-later (Some p)
         takes (Some q) i = later-wins q p (omega (arith, i.0, e))
+
+    pub measures-lesser : (length : ℕ) → length ≡ p.length → length < no_length → Measures (shorter_of f c) (min best length)
+    measures-lesser length e b = by-dec (dec_lt length best)
+      where
+        by-dec : Dec (length < best) → Measures (shorter_of f c) (min best length)
+        by-dec (yes h) = subst (λ (n : ℕ). Measures (shorter_of f c) n) {x = length} {y = min best length} (omega arith) (measures-taken length e b h)
+        by-dec (no h) = subst (λ (n : ℕ). Measures (shorter_of f c) n) {x = best} {y = min best length} (omega arith) (measures-kept length b (omega arith) (omega (arith, e)))
 
 -- at the end
 pub measures-found : (f : Option Path) (best : ℕ) → Measures f best → best < no_length → best ≡ found_length f

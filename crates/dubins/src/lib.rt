@@ -49,6 +49,7 @@ impl Case {
 }
 
 // The ends of a leg: its points, the courses to leave and to arrive on, the radius of the circles.
+// Their bounds stand in clauses, as `IsEnds`, and not in the type: the definition `ends_at` (plan/specs/Rules) makes the ends of a leg of any plan.
 #[derive(Clone, Copy)]
 pub struct Ends {
     pub start: Point,
@@ -63,6 +64,17 @@ pub struct Ends {
 struct Centres {
     right: Vector,
     left: Vector,
+}
+
+// A leg with both centres at each of its ends, which are worked out once for all cases.
+#[derive(Clone, Copy)]
+struct Sides {
+    ends: Ends,
+    from: Centres,
+    to: Centres,
+    ghost low: { IsEnds ends },
+    ghost start: { AreCentres ends.start ends.radius ends.leave from },
+    ghost end: { AreCentres ends.end ends.radius ends.arrive to },
 }
 
 // The circles of a case: their centres, and v from the start's to the end's.
@@ -298,7 +310,7 @@ fn least_turn(ends: Ends, case: Case) -> u64
     if case.same_side() {
         if case.starts_right() { right } else { left }
     } else {
-        if right < left { right } else { left }
+        right.min(left)
     }
 }
 
@@ -349,27 +361,86 @@ fn no_shorter(length: u64, ends: Ends, v: Vector, case: Case) -> bool
     false
 }
 
-// The shorter of what was found before and a case, from both centres at each end. Roots and bearings are dear, so those of a case that is seen not to
-// win are not worked out.
-fn better(best: Option<Way>, ends: Ends, from: Centres, to: Centres, case: Case) -> Option<Way>
-    requires tried { IsTried best × IsEnds ends }
-    requires are_centres { AreCentres ends.start ends.radius ends.leave from }
-    requires are_centres_2 { AreCentres ends.end ends.radius ends.arrive to }
-    ensures { (found_by ends.radius result ≡ shorter_of (found_by ends.radius best) (case_path ends case)) × IsTried result }
-{
-    let start = centre_on(from, case.starts_right());
-    let end = centre_on(to, case.ends_right());
-    let circles = circles_at(start, end);
-    let v = circles.v;
-    if !tangent_exists(v, ends.radius, case) {
-        return best;
+impl Sides {
+    // Both centres at each end of a leg.
+    fn new(ends: Ends) -> Sides
+        requires { IsEnds ends }
+        ensures { result.ends ≡ ends }
+    {
+        let start = ends.start;
+        let end = ends.end;
+        Sides {
+            ends,
+            from: both_centres(start, ends.radius, ends.leave),
+            to: both_centres(end, ends.radius, ends.arrive),
+        }
     }
-    if no_shorter(length_before(best), ends, v, case) {
-        return best;
+
+    // The circles of a case.
+    fn circles(self, case: Case) -> Circles
+        ensures { (result ≡ circles_of self.ends case) × IsCircles result }
+    {
+        let start = centre_on(self.from, case.starts_right());
+        let end = centre_on(self.to, case.ends_right());
+        circles_at(start, end)
     }
-    let s = straight(v, ends.radius, case);
-    let course = straight_course(v, s, ends.radius, case);
-    Some(shorter(best, way_of(ends, case, circles, s, course)))
+
+    // The shorter of what was found before and a case. Roots and bearings are dear, so those of a case that is seen not to win are not worked out.
+    fn better(self, best: Option<Way>, case: Case) -> Option<Way>
+        requires { IsTried best }
+        ensures { (found_by self.ends.radius result ≡ shorter_of (found_by self.ends.radius best) (case_path self.ends case)) × IsTried result }
+    {
+        let ends = self.ends;
+        let circles = self.circles(case);
+        let v = circles.v;
+        if !tangent_exists(v, ends.radius, case) {
+            return best;
+        }
+        if no_shorter(length_before(best), ends, v, case) {
+            return best;
+        }
+        let s = straight(v, ends.radius, case);
+        let course = straight_course(v, s, ends.radius, case);
+        Some(shorter(best, way_of(ends, case, circles, s, course)))
+    }
+
+    // The lesser of a length and that of a case; a case that does not exist has none.
+    fn better_length(self, best: u64, case: Case) -> u64
+        ensures { (f : Option Path) → Measures f best → Measures (shorter_of f (case_path self.ends case)) result }
+    {
+        let ends = self.ends;
+        let circles = self.circles(case);
+        let v = circles.v;
+        if !tangent_exists(v, ends.radius, case) {
+            return best;
+        }
+        if no_shorter(best, ends, v, case) {
+            return best;
+        }
+        let s = straight(v, ends.radius, case);
+        let course = straight_course(v, s, ends.radius, case);
+        best.min(case_length(ends, case, s, course))
+    }
+
+    // Whether the circles to the left are nearer to each other than those to the right. It decides nothing but what is worked out first.
+    fn left_nearer(self) -> bool {
+        let right = self.circles(Case::Rsr);
+        let left = self.circles(Case::Lsl);
+        plane::squared(left.v) < plane::squared(right.v)
+    }
+
+    // The lesser length of RSR and LSL: that of the nearer circles first, so that the other's is mostly not worked out.
+    fn outer_length(self) -> u64
+        ensures { Measures (shorter_of (shorter_of None (case_path self.ends Case.Rsr)) (case_path self.ends Case.Lsl)) result }
+    {
+        if self.left_nearer() {
+            let lsl = self.better_length(NO_LENGTH, Case::Lsl);
+            self.better_length(lsl, Case::Rsr)
+        } else {
+            let rsr = self.better_length(NO_LENGTH, Case::Rsr);
+            self.better_length(rsr, Case::Lsl)
+        }
+    }
 }
 
 // The path along a way, with the points where its straight part touches the circles.
@@ -407,63 +478,12 @@ pub fn shortest_path(ends: Ends) -> Option<Path>
     ensures found { IsFound result }
     ensures chosen { Chosen ends result × HandLegs }
 {
-    let start = ends.start;
-    let end = ends.end;
-    let from = both_centres(start, ends.radius, ends.leave);
-    let to = both_centres(end, ends.radius, ends.arrive);
-    let rsr = better(None, ends, from, to, Case::Rsr);
-    let rsl = better(rsr, ends, from, to, Case::Rsl);
-    let lsr = better(rsl, ends, from, to, Case::Lsr);
-    let lsl = better(lsr, ends, from, to, Case::Lsl);
+    let sides = Sides::new(ends);
+    let rsr = sides.better(None, Case::Rsr);
+    let rsl = sides.better(rsr, Case::Rsl);
+    let lsr = sides.better(rsl, Case::Lsr);
+    let lsl = sides.better(lsr, Case::Lsl);
     found_by(lsl, ends.radius)
-}
-
-// The lesser of a length and that of a case, from both centres at each end; a case that does not exist has none.
-fn better_length(best: u64, ends: Ends, from: Centres, to: Centres, case: Case) -> u64
-    requires ends { IsEnds ends }
-    requires are_centres { AreCentres ends.start ends.radius ends.leave from }
-    requires are_centres_2 { AreCentres ends.end ends.radius ends.arrive to }
-    ensures { (f : Option Path) → Measures f best → Measures (shorter_of f (case_path ends case)) result }
-{
-    let start = centre_on(from, case.starts_right());
-    let end = centre_on(to, case.ends_right());
-    let circles = circles_at(start, end);
-    let v = circles.v;
-    if !tangent_exists(v, ends.radius, case) {
-        return best;
-    }
-    if no_shorter(best, ends, v, case) {
-        return best;
-    }
-    let s = straight(v, ends.radius, case);
-    let course = straight_course(v, s, ends.radius, case);
-    let length = case_length(ends, case, s, course);
-    if length < best { length } else { best }
-}
-
-// Whether the circles to the left are nearer to each other than those to the right. It decides nothing but what is worked out first.
-fn left_nearer(from: Centres, to: Centres) -> bool
-    requires { (Near 510000 from.right × Near 510000 from.left) × (Near 510000 to.right × Near 510000 to.left) }
-{
-    let right = circles_at(from.right, to.right);
-    let left = circles_at(from.left, to.left);
-    plane::squared(left.v) < plane::squared(right.v)
-}
-
-// The lesser length of RSR and LSL: that of the nearer circles first, so that the other's is mostly not worked out.
-fn outer_length(ends: Ends, from: Centres, to: Centres) -> u64
-    requires ends { IsEnds ends }
-    requires are_centres { AreCentres ends.start ends.radius ends.leave from }
-    requires are_centres_2 { AreCentres ends.end ends.radius ends.arrive to }
-    ensures { Measures (shorter_of (shorter_of None (case_path ends Case.Rsr)) (case_path ends Case.Lsl)) result }
-{
-    if left_nearer(from, to) {
-        let lsl = better_length(NO_LENGTH, ends, from, to, Case::Lsl);
-        better_length(lsl, ends, from, to, Case::Rsr)
-    } else {
-        let rsr = better_length(NO_LENGTH, ends, from, to, Case::Rsr);
-        better_length(rsr, ends, from, to, Case::Lsl)
-    }
 }
 
 // The length of the shortest leg by any case, 0 where none exists. Only lengths are carried from case to case, no way; the least is the same in any
@@ -472,13 +492,9 @@ pub fn shortest_length(ends: Ends) -> u64
     requires { IsEnds ends }
     ensures { (result ≡ found_length (shortest_of ends)) × (result ≤ 2000000) }
 {
-    let start = ends.start;
-    let end = ends.end;
-    let from = both_centres(start, ends.radius, ends.leave);
-    let to = both_centres(end, ends.radius, ends.arrive);
-    let outer = outer_length(ends, from, to);
-    let rsl = better_length(outer, ends, from, to, Case::Rsl);
-    let best = better_length(rsl, ends, from, to, Case::Lsr);
+    let sides = Sides::new(ends);
+    let rsl = sides.better_length(sides.outer_length(), Case::Rsl);
+    let best = sides.better_length(rsl, Case::Lsr);
     if best < NO_LENGTH { best } else { 0 }
 }
 

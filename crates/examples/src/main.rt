@@ -13,7 +13,7 @@ ghost use Rattle.course.specs.Vectors.{Near};
 ghost use Rattle.plane.specs.Area.{InArea};
 
 use course::Vector;
-use dubins::{Ends, Found};
+use dubins::{Case, Ends};
 use fillets::Corner;
 use integers::signed;
 use manager::{Answer, Progress, State};
@@ -159,16 +159,12 @@ fn show_fillet(rt: HostRuntime) {
     }
 }
 
-fn write_case(rt: HostRuntime, case: u8) {
-    if dubins::starts_right(case) {
-        write(rt, b" RS");
-    } else {
-        write(rt, b" LS");
-    }
-    if dubins::ends_right(case) {
-        write(rt, b"R");
-    } else {
-        write(rt, b"L");
+fn write_case(rt: HostRuntime, case: Case) {
+    match case {
+        Case::Rsr => write(rt, b" RSR"),
+        Case::Rsl => write(rt, b" RSL"),
+        Case::Lsr => write(rt, b" LSR"),
+        Case::Lsl => write(rt, b" LSL"),
     }
 }
 
@@ -189,7 +185,7 @@ fn show_leg(rt: HostRuntime, end: Point, arrive: usize)
         radius: 100,
     });
     match found {
-        Found::Shortest(p) => {
+        Some(p) => {
             let z1 = p.z1;
             let z2 = p.z2;
             write_case(rt, p.case);
@@ -201,7 +197,7 @@ fn show_leg(rt: HostRuntime, end: Point, arrive: usize)
             write_vector(rt, z2);
             write(rt, b"\n");
         }
-        Found::Missing => write(rt, b" refused 17\n"),
+        None => write(rt, b" refused 17\n"),
     }
 }
 

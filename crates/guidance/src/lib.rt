@@ -321,12 +321,5 @@ pub fn dubins_guide(ends: Ends, path: Path, phase: u8, at: Point) -> Guidance
     }
     let centre = path.end;
     let passed = end_passed(end, ends.arrive, phase, at);
-    circle_guide(
-        centre,
-        end,
-        ends.radius,
-        path.case.ends_right(),
-        passed,
-        at,
-    )
+    circle_guide(centre, end, ends.radius, path.case.ends_right(), passed, at)
 }

@@ -25,8 +25,8 @@ abbrev pub leg : ℤ → ℤ → Leg
 leg n e = record { north = n; east = e; down = pos 0 }
 
 -- what an example says of a path
-abbrev pub brief_of : Path → Case × (ℕ × (Vector × Vector))
-brief_of p = (p.case, (p.length, (p.z1, p.z2)))
+abbrev pub path_brief : Path → Case × (ℕ × (Vector × Vector))
+path_brief p = (p.case, (p.length, (p.z1, p.z2)))
 
 -- ---- what an example says
 pub data StarredExample : Type 0 where
@@ -54,7 +54,7 @@ StarredHolds (meets d a b t) = met_of d a b ≡ t
 StarredHolds (rounds a b c R centre z2) = ((corner_of a b c R).centre ≡ centre) × ((corner_of a b c R).z2 ≡ z2)
 StarredHolds (measures ends case length) = option_map (λ (p : Path). p.length) (case_path ends case) ≡ Some length
 StarredHolds (lacks ends case) = case_path ends case ≡ None
-StarredHolds (flies ends case length z1 z2) = option_map brief_of (shortest_of ends) ≡ Some (case, (length, (z1, z2)))
+StarredHolds (flies ends case length z1 z2) = option_map path_brief (shortest_of ends) ≡ Some (case, (length, (z1, z2)))
 StarredHolds (heads_by q d k) = line_heading q d ≡ k
 
 -- the legs have R 100, from (0, 0) on course 0; negsuc n is −(n + 1); 0x3E800000 is 0.25 and 0xBE800000 is −0.25

@@ -17,15 +17,15 @@ or-false b e = sym (ap (λ t. t || b) e)
 two : (c : Joined-case_exists) → let e = c.args.ends in c.if-case_exists.value ≡ case_exists e Rsr || case_exists e Rsl
 two c =
     elim c.if-case_exists.branch [
-      then-case_exists w ↦ w.value-is ∙ w.if-case_exists.true ∙ or-true _ (sym c.case_exists.ensures ∙ w.if-case_exists.true)
-    | else-case_exists w ↦ w.value-is ∙ w.case_exists-else-case_exists.ensures ∙ or-false _ (sym c.case_exists.ensures ∙ w.if-case_exists.false)
+      | then-case_exists w ↦ w.value-is ∙ w.if-case_exists.true ∙ or-true _ (sym c.case_exists.ensures ∙ w.if-case_exists.true)
+      | else-case_exists w ↦ w.value-is ∙ w.case_exists-else-case_exists.ensures ∙ or-false _ (sym c.case_exists.ensures ∙ w.if-case_exists.false)
     ]
 
 three : (c : Joined-case_exists-2) → let e = c.args.ends in c.if-case_exists-2.value ≡ case_exists e Rsr || case_exists e Rsl || case_exists e Lsr
 three c =
     elim c.if-case_exists-2.branch [
-      then-case_exists-2 w ↦ w.value-is ∙ w.if-case_exists-2.true ∙ or-true _ (sym (two c.before) ∙ w.if-case_exists-2.true)
-    | else-case_exists-2 w ↦ w.value-is ∙ w.case_exists-else-case_exists-2.ensures ∙ or-false _ (sym (two c.before) ∙ w.if-case_exists-2.false)
+      | then-case_exists-2 w ↦ w.value-is ∙ w.if-case_exists-2.true ∙ or-true _ (sym (two c.before) ∙ w.if-case_exists-2.true)
+      | else-case_exists-2 w ↦ w.value-is ∙ w.case_exists-else-case_exists-2.ensures ∙ or-false _ (sym (two c.before) ∙ w.if-case_exists-2.false)
     ]
 
 pub returns-then-case_exists-3 : goal.returns-then-case_exists-3

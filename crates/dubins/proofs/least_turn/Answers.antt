@@ -1,6 +1,7 @@
 -- `least_turn` gives what both turns of a case come to at least. Assumes nothing.
-use mathlib.Core.Path.{sym, ◌∙◌}
+use mathlib.Core.Path.{◌≡◌, sym, ◌∙◌}
 use mathlib.Core.Bool.{true, false}
+use Prim.Native.Nat.{min}
 use native.Mathlib.Omega.{arith}
 use Rattle.dubins.proofs.LeastLaws.{like-sides, any-sides, like-ends}
 use Rattle.dubins.proofs.least_turn.Goals as goal
@@ -17,10 +18,7 @@ returns-else-starts_right c =
     let k = like-ends c.args.case (sym c.same_side.ensures ∙ c.if-same_side.true) ∙ e in
     (λ θ h. simp (e, k) (omega (arith, c.turn-left.ensures.0, like-sides c.args.ends.leave θ c.args.ends.arrive c.requires.leave h c.requires.arrive false)), c.turn-left.ensures.1)
 
-pub returns-then-right-left : goal.returns-then-right-left
-returns-then-right-left c =
-    (λ θ h. any-sides c.args.ends.leave θ c.args.ends.arrive c.requires.leave h c.requires.arrive _ (omega (arith, c.turn-right.ensures.0, c.turn-left.ensures.0)) (omega (arith, c.turn-right.ensures.0, c.turn-left.ensures.0)) _ _, c.turn-right.ensures.1)
-
-pub returns-else-right-left : goal.returns-else-right-left
-returns-else-right-left c =
-    (λ θ h. any-sides c.args.ends.leave θ c.args.ends.arrive c.requires.leave h c.requires.arrive _ (omega (arith, c.turn-right.ensures.0, c.turn-left.ensures.0)) (omega (arith, c.turn-right.ensures.0, c.turn-left.ensures.0)) _ _, c.turn-left.ensures.1)
+pub returns-else-same_side : goal.returns-else-same_side
+returns-else-same_side c =
+    let least : c.min.result ≡ min c.turn-right.result c.turn-left.result = c.min.ensures in
+    (λ θ h. any-sides c.args.ends.leave θ c.args.ends.arrive c.requires.leave h c.requires.arrive c.min.result (omega (arith, least, c.turn-right.ensures.0)) (omega (arith, least, c.turn-left.ensures.0)) _ _, omega (arith, least, c.turn-right.ensures.1))

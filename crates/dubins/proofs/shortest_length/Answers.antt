@@ -2,6 +2,7 @@
 use Rattle.std.proofs.Common.{Option}
 use mathlib.Core.Path.{subst}
 use native.Mathlib.Omega.{arith}
+use Rattle.dubins.specs.declared.Ends.{Ends}
 use Rattle.dubins.specs.declared.Path.{Path}
 use Rattle.dubins.specs.Choice.{shortest_of}
 use Rattle.dubins.specs.Ways.{Measures}
@@ -13,9 +14,11 @@ use Rattle.dubins.proofs.shortest_length.Goals.{After-better_length-best}
 -- all four cases were tried
 tried : (c : After-better_length-best) → Measures (shortest_of c.args.ends) c.better_length-best.result
 tried c =
-    let ends = c.args.ends in
-    subst (λ (f : Option Path). Measures f c.better_length-best.result) (shortest-all ends)
-    (outer-first ends _ (c.better_length-best.ensures _ (c.better_length-rsl.ensures _ c.outer_length-outer.ensures)))
+    let ends = c.new-sides.result.ends in
+    let best = c.better_length-best.result in
+    let all : Measures (shortest_of ends) best =
+    subst (λ (f : Option Path). Measures f best) (shortest-all ends) (outer-first ends _ (c.better_length-best.ensures _ (c.better_length-rsl.ensures _ c.outer_length.ensures))) in
+    subst (λ (x : Ends). Measures (shortest_of x) best) c.new-sides.ensures all
 
 pub returns-then-best-lt-NO_LENGTH : goal.returns-then-best-lt-NO_LENGTH
 returns-then-best-lt-NO_LENGTH c = let h = c.if-best-lt-NO_LENGTH.true in (measures-found _ _ (tried c.before) h, omega (arith, h))
