@@ -74,6 +74,7 @@ fn in_decimetres(fix: Fix) -> Point
 }
 
 // The position of a fix; there is none where a part is NaN, infinite or beyond its limit.
+// No TryFrom: the promise is named `units::locate` in docs/ASSURANCE.md, and there is one way to have none, so that an error would say no more.
 pub fn locate(fix: Fix) -> Option<Point>
     ensures { (result ≡ position_of fix) × (IsPosition result × FixExamples) }
 {
@@ -89,6 +90,7 @@ pub fn metres(d: i64) -> f32
 }
 
 // A part of a direction D(k), which counts 1/16,384.
+// Not one function with `metres` by its divisor: what each asks and promises differs, and all that they share is one division.
 pub fn direction_part(x: i64) -> f32
     requires { Within 16384 x }
     ensures { (result ≡ direction_part_of x) × (Exactly result x 16384 × Plain result) }
