@@ -40,15 +40,13 @@ fn put_strips(state: State, strips: usize, from: usize, buffer: &mut [u8]) -> us
     ensures { Wrote from (strip_lines_to state strips) buffer.old buffer.new result }
 {
     let mut at = from;
-    let mut i: usize = 0;
-    while i < strips {
-        i += 1;
+    for i in 0..strips {
         let strip = strips::row_at(
             &state.plan.norths,
             &state.plan.easts,
             &state.plan.downs,
             &state.plan.courses,
-            i,
+            i + 1,
         );
         at = put_strip(strip, at, buffer);
     }
