@@ -26,7 +26,7 @@ pub const LISTING_ROOM: usize = 7008;
 // Room for the line of a fix.
 pub const FIX_ROOM: usize = 197;
 
-// The words of an answer, in the order of c_answer::put_answer.
+// The words of an answer, in the order of c_answer::put_answer: by number, and kinds and senses as numbers, since put_fix promises fix_text of these.
 const REFUSAL: usize = 0;
 
 const PLACE: usize = 1;
@@ -48,6 +48,7 @@ const LINE_NUMBERS: usize = 6;
 
 const CIRCLE_NUMBERS: usize = 4;
 
+// A buffer has the place to write at beside it in all that follows, since put_title, put_fix, put_load, put_note and put_written promise Wrote of both.
 fn put_mode(mode: Mode, at: usize, buffer: &mut [u8]) -> usize
     requires { at + 7 ≤ length buffer.old }
     ensures { Wrote at (mode_text mode) buffer.old buffer.new result × (result ≤ at + 7) }
