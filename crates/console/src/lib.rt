@@ -2,18 +2,22 @@
 // brings; each ends without a fault, and what is handed to write is the text of library functions. Trouble is one line on standard error.
 #![tactic(auto)]
 
-ghost use Rattle.std.specs.Prelude.{true, ◌≡◌, ◌+◌, ◌≤◌, ◌<◌, length, drop};
-ghost use Rattle.console.specs.Counts.{IsPrefixLen};
+ghost use Rattle.std.specs.Prelude.{◌≡◌, ◌+◌, ◌≤◌, ◌<◌, length, drop, IfOk, IfErr};
+ghost use Rattle.console.specs.Counts.{IsPrefixLen, count_of};
 
 use std::env::{Env, FillError};
+use std::io;
 use std::io::{Error, ErrorKind, Print, Read, Write};
 
-// How many bytes were read before the end, or before a read that failed.
+// A read that failed, which has been said, and how many bytes were read before it.
 #[derive(Clone, Copy)]
-pub struct Filled {
+pub struct ReadFailed {
     pub count: usize,
-    pub failed: bool,
 }
+
+// A write that failed, which has been said.
+#[derive(Clone, Copy)]
+pub struct WriteFailed;
 
 // The most bytes that one read brings.
 const CHUNK: usize = 4096;
@@ -26,52 +30,31 @@ const NUMBER: &str = " (os error ";
 
 // Whether the program was started with an argument at this place. Its own name is at 0.
 pub fn has_argument<E: Env>(env: &E, place: usize) -> bool {
-    match env.arg(place, &mut []) {
-        Err(FillError::NotPresent) => false,
-        Err(FillError::TooLong) => true,
-        Ok(_) => true,
-    }
+    !matches!(env.arg(place, &mut []), Err(FillError::NotPresent))
 }
 
-// The first bytes of a buffer, as many as it has at most.
-fn first(buffer: &[u8], count: usize) -> &[u8] {
-    if count <= buffer.len() {
-        &buffer[..count]
-    } else {
-        buffer
-    }
-}
-
-// On standard output. Answers whether all were written, and says it where not. Of a pipe that nobody reads any more nothing is said.
-pub fn write(rt: HostRuntime, buffer: &[u8], count: usize) -> bool {
-    match Print::write_all(&rt, first(buffer, count)) {
-        Ok(()) => true,
-        Err(error) => {
-            if !matches!(error.kind(), ErrorKind::BrokenPipe) {
-                fail(rt, b"standard output", &error);
-            }
-            false
+// On standard output. A failure is said; of a pipe that nobody reads any more nothing is.
+pub fn write(rt: HostRuntime, text: &[u8]) -> Result<(), WriteFailed> {
+    Print::write_all(&rt, text).map_err(|error| {
+        if !matches!(error.kind(), ErrorKind::BrokenPipe) {
+            fail(rt, b"standard output", &error);
         }
-    }
+        WriteFailed
+    })
 }
 
 // On standard error. Where that can't be written, nothing is left to say it on.
-pub fn complain(rt: HostRuntime, buffer: &[u8], count: usize) {
-    say(rt, first(buffer, count));
-}
-
-fn say(rt: HostRuntime, text: &[u8]) {
+pub fn complain(rt: HostRuntime, text: &[u8]) {
     let _ = Print::write_all(&rt.stderr(), text);
 }
 
-// Puts an error's text into a room, as much as it has room for, and answers how much that is.
-fn put_text(error: &Error, room: &mut [u8]) -> usize
-    ensures { result ≤ length room.new }
-{
+// An error's text, as much as a room has room for.
+fn text_of<'a>(error: &Error, room: &'a mut [u8]) -> &'a [u8] {
     let most = room.len();
     let mut rest = &mut room[..];
     let _ = write!(rest, "{error}");
-    most.saturating_sub(rest.len())
+    let end = most.saturating_sub(rest.len());
+    &room[..end]
 }
 
 // The words of an error's text, without its number.
@@ -88,91 +71,65 @@ fn words(text: &[u8]) -> &[u8] {
 // A line on standard error: what failed, as the caller names it, and why, in the system's words.
 pub fn fail(rt: HostRuntime, name: &[u8], error: &Error) {
     let mut room = [0u8; REASON_ROOM];
-    let end = put_text(error, &mut room);
-    say(rt, name);
-    say(rt, b": ");
-    say(rt, words(&room[..end]));
-    say(rt, b"\n");
+    let text = text_of(error, &mut room);
+    complain(rt, name);
+    complain(rt, b": ");
+    complain(rt, words(text));
+    complain(rt, b"\n");
 }
 
-fn least(a: usize, b: usize) -> usize
-    ensures { (result ≤ a) × (result ≤ b) }
+// One read of so many bytes at most.
+fn read_some<R: Read>(reader: &mut R, most: usize, chunk: &mut [u8]) -> io::Result<usize>
+    ensures { IfOk result (λ n. IsPrefixLen n chunk.new × (n ≤ most)) }
 {
-    if a < b {
-        return a;
-    }
-    b
-}
-
-// One read of so many bytes at most. A failure is said.
-fn read_some<R: Read>(
-    rt: HostRuntime,
-    reader: &mut R,
-    name: &[u8],
-    most: usize,
-    chunk: &mut [u8],
-) -> Filled
-    ensures { IsPrefixLen result.count chunk.new × (result.count ≤ most) }
-{
-    let size = least(most, chunk.len());
-    let got = reader.read(&mut chunk[..size]);
-    if let Err(error) = &got {
-        fail(rt, name, error);
-    }
-    Filled {
-        count: got.unwrap_or(0),
-        failed: got.is_err(),
-    }
+    let size = most.min(chunk.len());
+    reader.read(&mut chunk[..size])
 }
 
 // One read behind the first bytes. It goes by way of a chunk, since no contract says what a read leaves behind the bytes that it brings.
-fn read_behind<R: Read>(
-    rt: HostRuntime,
-    reader: &mut R,
-    name: &[u8],
-    done: usize,
-    room: &mut [u8],
-) -> Filled
+fn read_behind<R: Read>(reader: &mut R, done: usize, room: &mut [u8]) -> io::Result<usize>
     requires { done ≤ length room.old }
-    ensures count_in_bounds { done + result.count ≤ length room.old }
-    ensures room_unchanged { drop (done + result.count) room.new ≡ drop (done + result.count) room.old }
+    ensures count_in_bounds { IfOk result (λ n. done + n ≤ length room.old) }
+    ensures room_unchanged { IfOk result (λ n. drop (done + n) room.new ≡ drop (done + n) room.old) }
+    ensures room_kept { IfErr result (λ _. room.new ≡ room.old) }
 {
     let mut chunk = [0u8; CHUNK];
-    let read = read_some(rt, reader, name, room.len() - done, &mut chunk);
-    let count = read.count;
+    let count = read_some(reader, room.len() - done, &mut chunk)?;
     buffers::put(&chunk[..count], &mut room[done..]);
-    read
+    Ok(count)
 }
 
 // Reads until the room is full, the input ends or a read fails, which is said under the input's name. Of a room only the bytes that are counted
 // change, and no full room is a failure.
-pub fn fill<R: Read>(rt: HostRuntime, reader: &mut R, name: &[u8], room: &mut [u8]) -> Filled
-    ensures prefix_len { IsPrefixLen result.count room.new }
-    ensures room_unchanged { drop result.count room.new ≡ drop result.count room.old }
-    ensures count_in_bounds { result.failed ≡ true → result.count < length room.old }
+pub fn fill<R: Read>(
+    rt: HostRuntime,
+    reader: &mut R,
+    name: &[u8],
+    room: &mut [u8],
+) -> Result<usize, ReadFailed>
+    ensures prefix_len { IsPrefixLen (count_of result) room.new }
+    ensures room_unchanged { drop (count_of result) room.new ≡ drop (count_of result) room.old }
+    ensures count_in_bounds { IfErr result (λ e. e.count < length room.old) }
 {
     let mut done: usize = 0;
     while done < room.len() {
-        let read = read_behind(rt, reader, name, done, room);
-        if read.count == 0 {
-            return Filled {
-                count: done,
-                failed: read.failed,
-            };
+        match read_behind(reader, done, room) {
+            Ok(0) => break,
+            Ok(count) => done += count,
+            Err(error) => {
+                fail(rt, name, &error);
+                return Err(ReadFailed { count: done });
+            }
         }
-        done += read.count;
     }
-    Filled {
-        count: done,
-        failed: false,
-    }
+    Ok(done)
 }
 
 // The same of standard input.
-pub fn read(rt: HostRuntime, room: &mut [u8]) -> Filled
-    ensures prefix_len { IsPrefixLen result.count room.new }
-    ensures room_unchanged { drop result.count room.new ≡ drop result.count room.old }
-    ensures count_in_bounds { result.failed ≡ true → result.count < length room.old }
+pub fn read(rt: HostRuntime, room: &mut [u8]) -> Result<usize, ReadFailed>
+    ensures prefix_len { IsPrefixLen (count_of result) room.new }
+    ensures room_unchanged { drop (count_of result) room.new ≡ drop (count_of result) room.old }
+    ensures count_in_bounds { IfErr result (λ e. e.count < length room.old) }
 {
     fill(rt, &mut rt.stdin(), b"standard input", room)
 }

@@ -3,12 +3,11 @@
 //   S  a state: serial u32, mode u8 (0 lines, 1 fillets, 2 Dubins), radius u16, count u16, k u8 and k points of three i32,
 //      m u8 and m courses u16, index u16, phase u8, finished u8. Places that aren't listed are zero.
 //   F  a fix for the state before it: the named serial u32, then north, east and down as the bits of an f32.
-// A block starts below byte 66,000 and takes under 1,000 bytes; the contracts say so in order that no offset overflows.
 #![tactic(auto)]
 
 mod plans;
 
-ghost use Rattle.std.specs.Prelude.{◌+◌, ◌≤◌, ◌<◌, length};
+ghost use Rattle.std.specs.Prelude.{◌+◌, ◌≤◌, ◌<◌, length, IfSome};
 ghost use Rattle.course.specs.Vectors.{Near};
 ghost use Rattle.plane.specs.Area.{InArea};
 
@@ -24,14 +23,30 @@ use text::float;
 use units::Fix;
 
 // The first byte of a block.
-const STATE_LETTER: u8 = 0x53;
+const STATE_LETTER: u8 = b'S';
 
-const FIX_LETTER: u8 = 0x46;
+const FIX_LETTER: u8 = b'F';
 
-// The bytes of a fix, and those of a state before the list of its points.
+// Where the parts of a state's block stand, and where its list of points begins.
+const SERIAL: usize = 1;
+
+const MODE: usize = 5;
+
+const RADIUS: usize = 6;
+
+const COUNT: usize = 8;
+
+const POINTS: usize = 10;
+
+// The bytes of a point in that list, and of a course in the one behind it.
+const POINT_SIZE: usize = 12;
+
+const COURSE_SIZE: usize = 2;
+
+// Where the numbers of a fix's block stand, and how many bytes it has.
+const FIX_POSITION: usize = 5;
+
 const FIX_SIZE: usize = 17;
-
-const TO_POINTS: usize = 10;
 
 // Room for the input, and for a byte more than it may have.
 const INPUT_ROOM: usize = 65536;
@@ -42,25 +57,25 @@ const DIGITS: usize = 21;
 const REFUSAL_ROOM: usize = 52;
 
 fn write(rt: HostRuntime, text: &[u8]) {
-    console::write(rt, text, text.len());
+    let _ = console::write(rt, text);
 }
 
 fn write_decimal(rt: HostRuntime, n: u64) {
     let mut digits = [0u8; DIGITS];
     let end = text::put_decimal(n, 0, &mut digits);
-    console::write(rt, &digits, end);
+    write(rt, &digits[..end]);
 }
 
 fn write_number(rt: HostRuntime, x: i64) {
     let mut digits = [0u8; DIGITS];
     let end = text::put_signed(x, 0, &mut digits);
-    console::write(rt, &digits, end);
+    write(rt, &digits[..end]);
 }
 
 fn write_refusal(rt: HostRuntime, number: u8, place: usize) {
     let mut line = [0u8; REFUSAL_ROOM];
-    let end = text::put_refusal(number as u64, place as u64, 0, &mut line);
-    console::write(rt, &line, end);
+    let end = text::put_refusal(u64::from(number), place as u64, 0, &mut line);
+    write(rt, &line[..end]);
 }
 
 fn write_vector(rt: HostRuntime, v: Vector) {
@@ -75,8 +90,8 @@ fn vector(north: i16, east: i16) -> Vector
     ensures { Near 1000000 result }
 {
     Vector {
-        north: north as i64,
-        east: east as i64,
+        north: i64::from(north),
+        east: i64::from(east),
     }
 }
 
@@ -84,14 +99,10 @@ fn point(north: i16, east: i16) -> Point
     ensures { InArea result }
 {
     Point {
-        north: north as i32,
-        east: east as i32,
+        north: i32::from(north),
+        east: i32::from(east),
         down: 0,
     }
-}
-
-fn north_of(p: Point) -> i64 {
-    p.north as i64
 }
 
 fn show_bearing(rt: HostRuntime, v: Vector)
@@ -115,7 +126,7 @@ fn show_fix(rt: HostRuntime, name: &[u8], north: f32) {
     match p {
         Some(p) => {
             write(rt, b" is ");
-            write_number(rt, north_of(p));
+            write_number(rt, i64::from(p.north));
             write(rt, b"\n");
         }
         None => write(rt, b" refused 13\n"),
@@ -130,11 +141,12 @@ fn show_half_plane(rt: HostRuntime, north: i16, east: i16) {
     let b = plane::leg_between(corner, point(0, 2000));
     write(rt, b"half-plane ");
     write_vector(rt, vector(north, east));
-    if plane::met(d, a, b) {
-        write(rt, b" met\n");
+    let answer: &[u8] = if plane::met(d, a, b) {
+        b" met\n"
     } else {
-        write(rt, b" not met\n");
-    }
+        b" not met\n"
+    };
+    write(rt, answer);
 }
 
 fn write_corner(rt: HostRuntime, c: Corner) {
@@ -245,8 +257,7 @@ fn show_fixes(rt: HostRuntime) {
 fn put_u16(value: u16, at: usize, file: &mut [u8])
     requires { at + 2 ≤ length file.old }
 {
-    file[at] = (value / 256) as u8;
-    file[at + 1] = (value % 256) as u8;
+    file[at..at + 2].copy_from_slice(&value.to_be_bytes());
 }
 
 // Whether the newest reader loads a file.
@@ -265,7 +276,7 @@ fn show_fillet_plan(rt: HostRuntime, radius: u16) {
     let mut file = plans::FILLETS_FILE;
     put_u16(radius, plans::RADIUS_BYTE, &mut file);
     write(rt, b"fillet R ");
-    write_decimal(rt, radius as u64);
+    write_decimal(rt, u64::from(radius));
     write_verdict(rt, &file);
 }
 
@@ -273,7 +284,7 @@ fn show_dubins_plan(rt: HostRuntime, east: u16) {
     let mut file = plans::DUBINS_FILE;
     put_u16(east, plans::EAST_BYTE, &mut file);
     write(rt, b"dubins to (0,");
-    write_decimal(rt, east as u64);
+    write_decimal(rt, u64::from(east));
     write(rt, b")");
     write_verdict(rt, &file);
 }
@@ -287,190 +298,153 @@ fn show_plans(rt: HostRuntime) {
 
 // ---- flights
 
+// The functions of a block take what is left of the input, from the block on.
+
 // The byte at i, 0 past the end.
-fn byte_at(s: &[u8], i: usize) -> u8 {
-    if i < s.len() {
-        return s[i];
-    }
-    0
+fn byte_at(block: &[u8], i: usize) -> u8 {
+    block.get(i).copied().unwrap_or(0)
 }
 
-fn fix_at(s: &[u8], i: usize) -> Fix
-    requires { i ≤ 67000 }
-{
+fn fix_of(block: &[u8]) -> Fix {
     Fix {
-        north: float(u32_at(s, i)),
-        east: float(u32_at(s, i + 4)),
-        down: float(u32_at(s, i + 8)),
+        north: float(u32_at(block, FIX_POSITION)),
+        east: float(u32_at(block, FIX_POSITION + 4)),
+        down: float(u32_at(block, FIX_POSITION + 8)),
     }
 }
 
 // How many points or courses a list at i has, as far as a plan has places.
-fn listed(s: &[u8], i: usize) -> usize
+fn listed(block: &[u8], i: usize) -> usize
     ensures { result ≤ 64 }
 {
-    let n = byte_at(s, i) as usize;
-    if n <= plan::MOST_POINTS {
-        n
-    } else {
-        plan::MOST_POINTS
-    }
+    usize::from(byte_at(block, i)).min(plan::MOST_POINTS)
 }
 
-// A number of each point of a state at i: the one so many bytes into the point.
-fn numbers_at(s: &[u8], i: usize, into: usize) -> [i32; plan::MOST_POINTS]
-    requires { (i ≤ 66000) × (into ≤ 8) }
+// A number of each point of a state: the one so many bytes into the point.
+fn numbers_of(block: &[u8], into: usize) -> [i32; plan::MOST_POINTS]
+    requires { into ≤ 8 }
 {
-    let mut numbers = [0i32; plan::MOST_POINTS];
-    let list = i + TO_POINTS;
-    let n = listed(s, list);
-    let mut k: usize = 0;
-    while k < n {
-        numbers[k] = signed(u32_at(s, list + 1 + into + 12 * k));
-        k += 1;
+    let mut numbers = [0; plan::MOST_POINTS];
+    for k in 0..listed(block, POINTS) {
+        numbers[k] = signed(u32_at(block, POINTS + 1 + into + POINT_SIZE * k));
     }
     numbers
 }
 
 // The courses of a list at i.
-fn courses_at(s: &[u8], i: usize) -> [i32; plan::MOST_POINTS]
-    requires { i ≤ 67000 }
+fn courses_at(block: &[u8], i: usize) -> [i32; plan::MOST_POINTS]
+    requires { i ≤ 1000 }
 {
-    let mut courses = [0i32; plan::MOST_POINTS];
-    let n = listed(s, i);
-    let mut k: usize = 0;
-    while k < n {
-        courses[k] = u16_at(s, i + 1 + 2 * k) as i32;
-        k += 1;
+    let mut courses = [0; plan::MOST_POINTS];
+    for k in 0..listed(block, i) {
+        courses[k] = i32::from(u16_at(block, i + 1 + COURSE_SIZE * k));
     }
     courses
 }
 
 fn mode_of(number: u8) -> Mode {
-    if number == 0 {
-        return Mode::Lines;
+    match number {
+        0 => Mode::Lines,
+        1 => Mode::Fillets,
+        _ => Mode::Dubins,
     }
-    if number == 1 {
-        return Mode::Fillets;
-    }
-    Mode::Dubins
 }
 
-// Where the courses of a state at i are listed.
-fn to_courses(s: &[u8], i: usize) -> usize
-    requires { i ≤ 66000 }
-    ensures { (i ≤ result) × (result ≤ i + 779) }
+// Where the courses of a state are listed.
+fn to_courses(block: &[u8]) -> usize
+    ensures { result ≤ 779 }
 {
-    i + TO_POINTS + 1 + 12 * listed(s, i + TO_POINTS)
+    POINTS + 1 + POINT_SIZE * listed(block, POINTS)
 }
 
 // Where they end.
-fn past_courses(s: &[u8], i: usize) -> usize
-    requires { i ≤ 66000 }
-    ensures { (i ≤ result) × (result ≤ i + 908) }
+fn past_courses(block: &[u8]) -> usize
+    ensures { result ≤ 908 }
 {
-    let at = to_courses(s, i);
-    at + 1 + 2 * listed(s, at)
+    let at = to_courses(block);
+    at + 1 + COURSE_SIZE * listed(block, at)
 }
 
-fn state_at(s: &[u8], i: usize) -> State
-    requires { i ≤ 66000 }
-{
+fn state_of(block: &[u8]) -> State {
     let head = Head {
-        serial: u32_at(s, i + 1),
-        mode: mode_of(byte_at(s, i + 5)),
-        radius: u16_at(s, i + 6),
-        count: u16_at(s, i + 8) as usize,
+        serial: u32_at(block, SERIAL),
+        mode: mode_of(byte_at(block, MODE)),
+        radius: u16_at(block, RADIUS),
+        count: usize::from(u16_at(block, COUNT)),
     };
     let plan = Plan {
         head,
-        norths: numbers_at(s, i, 0),
-        easts: numbers_at(s, i, 4),
-        downs: numbers_at(s, i, 8),
-        courses: courses_at(s, to_courses(s, i)),
+        norths: numbers_of(block, 0),
+        easts: numbers_of(block, 4),
+        downs: numbers_of(block, 8),
+        courses: courses_at(block, to_courses(block)),
     };
-    let rest = past_courses(s, i);
+    let rest = past_courses(block);
     let progress = Progress {
-        index: u16_at(s, rest) as usize,
-        phase: byte_at(s, rest + 2),
-        finished: byte_at(s, rest + 3) != 0,
+        index: usize::from(u16_at(block, rest)),
+        phase: byte_at(block, rest + 2),
+        finished: byte_at(block, rest + 3) != 0,
     };
     State { plan, progress }
 }
 
-// The size of a state at i, 0 where its mode or a list's length is none that a state has.
-fn state_size(s: &[u8], i: usize) -> usize
-    requires { i ≤ 66000 }
-    ensures { result ≤ 1000 }
+// The size of a state, none where its mode or a list's length is none that a state has.
+fn state_size(block: &[u8]) -> Option<usize>
+    ensures { IfSome result (λ n. 0 < n) }
 {
-    let points = byte_at(s, i + TO_POINTS) as usize;
-    let courses = byte_at(s, to_courses(s, i)) as usize;
-    if byte_at(s, i + 5) <= 2 {
-        if points <= plan::MOST_POINTS {
-            if courses <= plan::MOST_POINTS {
-                return past_courses(s, i) + 4 - i;
-            }
-        }
-    }
-    0
+    let points = usize::from(byte_at(block, POINTS));
+    let courses = usize::from(byte_at(block, to_courses(block)));
+    let stands = byte_at(block, MODE) <= 2
+        && points <= plan::MOST_POINTS
+        && courses <= plan::MOST_POINTS;
+    stands.then_some(past_courses(block) + 4)
 }
 
-// The size of a block at i, 0 where there is none.
-fn block_size(s: &[u8], i: usize) -> usize
-    requires { i ≤ 66000 }
-    ensures { result ≤ 1000 }
+// The size of a block, none where there is no block.
+fn block_size(block: &[u8]) -> Option<usize>
+    ensures { IfSome result (λ n. 0 < n) }
 {
-    let kind = byte_at(s, i);
-    if kind == FIX_LETTER {
-        return FIX_SIZE;
+    match byte_at(block, 0) {
+        FIX_LETTER => Some(FIX_SIZE),
+        STATE_LETTER => state_size(block),
+        _ => None,
     }
-    if kind == STATE_LETTER {
-        return state_size(s, i);
-    }
-    0
 }
 
-// The size of a block at i, 0 where there is no whole one, which is then said.
-fn whole_block(rt: HostRuntime, s: &[u8], i: usize) -> usize
-    requires { (i ≤ 66000) × (i ≤ length s.now) }
-    ensures { i + result ≤ length s.now }
+// The size of a block at i, none where there is no whole one, which is then said.
+fn whole_block(rt: HostRuntime, block: &[u8], i: usize) -> Option<usize>
+    ensures { IfSome result (λ n. (0 < n) × (n ≤ length block.now)) }
 {
-    let size = block_size(s, i);
-    if size == 0 {
-        write(rt, b"no block at byte ");
-    } else if s.len() - i < size {
-        write(rt, b"block cut at byte ");
-    } else {
-        return size;
-    }
+    let trouble: &[u8] = match block_size(block) {
+        None => b"no block at byte ",
+        Some(size) if block.len() < size => b"block cut at byte ",
+        Some(size) => return Some(size),
+    };
+    write(rt, trouble);
     write_decimal(rt, i as u64);
     write(rt, b"\n");
-    0
+    None
 }
 
 // The line of a fix, by its number since the last state.
 fn show(rt: HostRuntime, number: u64, answer: Answer) {
     let mut words = [0u32; c_answer::ANSWER];
     let mut numbers = [0.0f32; c_answer::COMMAND];
-    let command = answer.command;
     c_answer::put_answer(answer, &mut words);
-    c_answer::put_command(command, &mut numbers);
+    c_answer::put_command(answer.command, &mut numbers);
     let mut line = [0u8; report::FIX_ROOM];
     let end = report::put_fix(number, &words, &numbers, 0, &mut line);
-    console::write(rt, &line, end);
+    write(rt, &line[..end]);
 }
 
-// The state after the fix at i, whose line is written.
-fn fly_fix(rt: HostRuntime, s: &[u8], i: usize, number: u64, state: State) -> State
-    requires { i ≤ 66000 }
-{
-    let stepped = state.step(u32_at(s, i + 1), fix_at(s, i + 5));
-    let answer = stepped.answer;
-    show(rt, number, answer);
+// The state after a fix, whose line is written.
+fn fly_fix(rt: HostRuntime, block: &[u8], number: u64, state: State) -> State {
+    let stepped = state.step(u32_at(block, SERIAL), fix_of(block));
+    show(rt, number, stepped.answer);
     stepped.state
 }
 
-// All blocks, up to one that isn't whole.
+// All blocks, up to one that isn't whole. The sizes of blocks differ, and trouble is told by its byte, so no for goes over them.
 fn fly_blocks(rt: HostRuntime, s: &[u8])
     requires { length s.now ≤ 65536 }
 {
@@ -478,16 +452,16 @@ fn fly_blocks(rt: HostRuntime, s: &[u8])
     let mut fixes: u64 = 0;
     let mut i: usize = 0;
     while i < s.len() {
-        let size = whole_block(rt, s, i);
-        if size == 0 {
+        let block = &s[i..];
+        let Some(size) = whole_block(rt, block, i) else {
             return;
-        }
-        if s[i] == FIX_LETTER {
+        };
+        if byte_at(block, 0) == FIX_LETTER {
             fixes += 1;
-            state = fly_fix(rt, s, i, fixes, state);
+            state = fly_fix(rt, block, fixes, state);
         } else {
             fixes = 0;
-            state = state_at(s, i);
+            state = state_of(block);
         }
         i += size;
     }
@@ -496,8 +470,7 @@ fn fly_blocks(rt: HostRuntime, s: &[u8])
 // Room that is left in the buffer shows that standard input was read to its end, or as far as it could be read, which is then said.
 fn fly(rt: HostRuntime) {
     let mut space = [0u8; INPUT_ROOM];
-    let read = console::read(rt, &mut space);
-    let count = read.count;
+    let count = console::read(rt, &mut space).unwrap_or_else(|failed| failed.count);
     if count < INPUT_ROOM {
         fly_blocks(rt, &space[..count]);
     } else {

@@ -1,11 +1,13 @@
 -- The floats of a command one after another, and what a kind, a sense and a refusal choose. Assumes nothing.
 use mathlib.Core.Path.{◌≡◌, refl, ◌∙◌}
 use mathlib.Core.List.{List, ◌++◌}
-use Prim.Native.Nat.{ℕ, ◌+◌, ◌*◌, ◌≤◌, ◌<◌}
+use Prim.Native.Nat.{ℕ, zero, suc, ◌+◌, ◌*◌, ◌≤◌, ◌<◌}
 use native.Mathlib.Numerals.{add-one}
 use native.Mathlib.Omega.{arith}
 use lib.Ieee.{Float, nan}
-use lib.ListN.{length, get_or}
+use lib.ListN.{length, get_or, take}
+use lib.Seq.{length-take-le}
+use Rattle.std.proofs.lemmas.List.{get_or-take}
 use borrow.Author.Tests.{eq-eqb, ne_eqb}
 use Rattle.conditions.proofs.ChooseLaws.{choose-true, choose-false}
 use Rattle.text.specs.Ascii.{ascii}
@@ -33,9 +35,6 @@ module _ (xs : List Float) (from n : ℕ) (old : List ℕ) (room : from + 9 * n 
   starts = record { inside = omega arith; kept = refl; done = none from old (omega arith); short = omega arith }
 
   module _ (now : List ℕ) (at i : ℕ) (u : Floating xs from n old now at i) where
-    pub fits : i < n → at + 9 ≤ length now
-    fits h = omega (arith, u.kept, u.short)
-
     pub goes_on : (between new : List ℕ) (mid to : ℕ) → i < n → length new ≡ length now → Wrote at space now between mid
         → Wrote mid (float_text (get_or xs i nan)) between new to × (to ≡ mid + 8) → Floating xs from n old new to (i + 1)
     goes_on between new mid to h k v w =
@@ -46,8 +45,15 @@ module _ (xs : List Float) (from n : ℕ) (old : List ℕ) (room : from + 9 * n 
           short = omega (arith, u.short, v.ends, w.1);
         }
 
-    pub ends : n ≤ i → Wrote from (floats_to xs n) old now at × (at ≤ from + 9 * n)
-    ends h = let e : i ≡ n = omega (arith, u.inside) in (rw e at u.done, omega (arith, u.short))
+-- all floats of a front are the first ones of the whole
+first-floats : (xs : List Float) (n i : ℕ) → i ≤ n → n ≤ length xs → floats_to (take n xs) i ≡ floats_to xs i
+unfolding floats_to
+first-floats xs n zero h k = refl
+first-floats xs n (suc i) h k =
+    rw (first-floats xs n i (omega arith) k, get_or-take n xs i nan (omega arith))
+
+pub floats-front : (xs : List Float) (n : ℕ) → n ≤ length xs → floats_to (take n xs) (length (take n xs)) ≡ floats_to xs n
+floats-front xs n k = rw (length-take-le n xs k) (first-floats xs n n (omega arith) k)
 
 -- ---- what is chosen
 pub sense-right : (sense : ℕ) → sense ≡ 1 → sense_text sense ≡ ascii " sense 1"

@@ -41,9 +41,6 @@ module _ (p : Plan) (from : ℕ) (old : List ℕ) (room : from + 108 * p.head.co
   starts = record { inside = omega arith; kept = refl; done = none from old (omega arith); short = omega arith }
 
   module _ (now : List ℕ) (at i : ℕ) (u : Underway p from old now at i) where
-    pub fits : i < p.head.count → at + 108 ≤ length now
-    fits h = omega (arith, u.kept, u.short)
-
     pub goes_on : (new : List ℕ) (to : ℕ) → i < p.head.count → length new ≡ length now
         → {q : Point} {course : ℕ} → q ≡ plan_point p i → course ≡ plan_course p i
         → Wrote at (line_of p.head.mode (i + 1) q course) now new to × (to ≤ at + 108) → Underway p from old new to (i + 1)
@@ -55,9 +52,6 @@ module _ (p : Plan) (from : ℕ) (old : List ℕ) (room : from + 108 * p.head.co
           done = rw (lines_next p i) (then u.done v);
           short = omega (arith, u.short, w.1);
         }
-
-    pub ends : p.head.count ≤ i → Wrote from (lines_to p p.head.count) old now at
-    ends h = let e : i ≡ p.head.count = omega (arith, u.inside) in rw e at u.done
 
 -- ---- 7.8
 pub loaded-few : (r : ℕ) (f : List ℕ) (o : Outcome State) → load_of r f ≡ o → (loaded_of o).state.plan.head.count ≤ most_points

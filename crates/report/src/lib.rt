@@ -26,7 +26,7 @@ pub const LISTING_ROOM: usize = 7008;
 // Room for the line of a fix.
 pub const FIX_ROOM: usize = 197;
 
-// The words of an answer, in the order of c_answer::put_answer.
+// The words of an answer, in the order of c_answer::put_answer: by number, and kinds and senses as numbers, since put_fix promises fix_text of these.
 const REFUSAL: usize = 0;
 
 const PLACE: usize = 1;
@@ -48,6 +48,7 @@ const LINE_NUMBERS: usize = 6;
 
 const CIRCLE_NUMBERS: usize = 4;
 
+// A buffer has the place to write at beside it in all that follows, since put_title, put_fix, put_load, put_note and put_written promise Wrote of both.
 fn put_mode(mode: Mode, at: usize, buffer: &mut [u8]) -> usize
     requires { at + 7 ≤ length buffer.old }
     ensures { Wrote at (mode_text mode) buffer.old buffer.new result × (result ≤ at + 7) }
@@ -72,18 +73,12 @@ pub fn put_title(version: u16, head: Head, buffer: &mut [u8]) -> usize
     text::put_count(b" points ", head.count as u64, d, buffer)
 }
 
-fn wide(x: i32) -> i64
-    ensures { result ≡ x }
-{
-    x as i64
-}
-
 // A number of a point.
 fn put_number(x: i32, at: usize, buffer: &mut [u8]) -> usize
     requires { at + 22 ≤ length buffer.old }
     ensures { Wrote at (number_text space x) buffer.old buffer.new result × (result ≤ at + 22) }
 {
-    text::put_number(b" ", wide(x), at, buffer)
+    text::put_number(b" ", i64::from(x), at, buffer)
 }
 
 fn put_point(point: Point, at: usize, buffer: &mut [u8]) -> usize
@@ -101,8 +96,7 @@ fn put_course(mode: Mode, course: u64, at: usize, buffer: &mut [u8]) -> usize
     ensures { Wrote at (course_text mode course) buffer.old buffer.new result × (result ≤ at + 21) }
 {
     match mode {
-        Mode::Lines => text::put_text(b" -", at, buffer),
-        Mode::Fillets => text::put_text(b" -", at, buffer),
+        Mode::Lines | Mode::Fillets => text::put_text(b" -", at, buffer),
         Mode::Dubins => text::put_count(b" ", course, at, buffer),
     }
 }
@@ -111,7 +105,7 @@ fn course_at(courses: &[i32], i: usize) -> u64
     requires { i < length courses.now }
     ensures { result ≡ course_at courses.now i }
 {
-    integers::magnitude(wide(courses[i]))
+    integers::magnitude(i64::from(courses[i]))
 }
 
 fn put_line(
@@ -137,15 +131,11 @@ fn put_lines(plan: Plan, from: usize, buffer: &mut [u8]) -> usize
     ensures { Wrote from (lines_to plan plan.head.count) buffer.old buffer.new result }
 {
     let head = plan.head;
-    let mode = head.mode;
-    let count = head.count;
     let mut at = from;
-    let mut i: usize = 0;
-    while i < count {
+    for i in 0..head.count {
         let point = plan::point_at(&plan.norths, &plan.easts, &plan.downs, i);
         let course = course_at(&plan.courses, i);
-        i += 1;
-        at = put_line(mode, i, point, course, at, buffer);
+        at = put_line(head.mode, i + 1, point, course, at, buffer);
     }
     at
 }
@@ -180,17 +170,15 @@ pub fn listing(file: &[u8], buffer: &mut [u8]) -> usize
     text::put_byte(b'\n', end, buffer)
 }
 
-// The first numbers, a space before each.
-fn put_floats(numbers: &[f32], count: usize, from: usize, buffer: &mut [u8]) -> usize
-    requires { (count ≤ length numbers.now) × (from + 9 * count ≤ length buffer.old) }
-    ensures { Wrote from (floats_to numbers.now count) buffer.old buffer.new result × (result ≤ from + 9 * count) }
+// Numbers, a space before each.
+fn put_floats(numbers: &[f32], from: usize, buffer: &mut [u8]) -> usize
+    requires { from + 9 * length numbers.now ≤ length buffer.old }
+    ensures { Wrote from (floats_to numbers.now (length numbers.now)) buffer.old buffer.new result × (result ≤ from + 9 * length numbers.now) }
 {
     let mut at = from;
-    let mut i: usize = 0;
-    while i < count {
+    for x in numbers {
         let digits = text::put_byte(b' ', at, buffer);
-        at = text::put_float(numbers[i], digits, buffer);
-        i += 1;
+        at = text::put_float(*x, digits, buffer);
     }
     at
 }
@@ -200,9 +188,10 @@ fn put_sense(sense: u32, at: usize, buffer: &mut [u8]) -> usize
     ensures { Wrote at (sense_text sense) buffer.old buffer.new result × (result ≤ at + 9) }
 {
     if sense == 1 {
-        return text::put_text(b" sense 1", at, buffer);
+        text::put_text(b" sense 1", at, buffer)
+    } else {
+        text::put_text(b" sense -1", at, buffer)
     }
-    text::put_text(b" sense -1", at, buffer)
 }
 
 // A command of six numbers, or of four and a sense.
@@ -210,16 +199,18 @@ fn put_command(kind: u32, sense: u32, numbers: &[f32], at: usize, buffer: &mut [
     requires { (6 ≤ length numbers.now) × (at + 59 ≤ length buffer.old) }
     ensures { Wrote at (command_text kind sense numbers.now) buffer.old buffer.new result × (result ≤ at + 59) }
 {
-    if kind == LINE_KIND {
-        let a = text::put_text(b" line", at, buffer);
-        return put_floats(numbers, LINE_NUMBERS, a, buffer);
+    match kind {
+        LINE_KIND => {
+            let a = text::put_text(b" line", at, buffer);
+            put_floats(&numbers[..LINE_NUMBERS], a, buffer)
+        }
+        CIRCLE_KIND => {
+            let a = text::put_text(b" circle", at, buffer);
+            let b = put_floats(&numbers[..CIRCLE_NUMBERS], a, buffer);
+            put_sense(sense, b, buffer)
+        }
+        _ => text::put_text(b" nothing", at, buffer),
     }
-    if kind == CIRCLE_KIND {
-        let a = text::put_text(b" circle", at, buffer);
-        let b = put_floats(numbers, CIRCLE_NUMBERS, a, buffer);
-        return put_sense(sense, b, buffer);
-    }
-    text::put_text(b" nothing", at, buffer)
 }
 
 // A word of an answer behind a name.

@@ -57,9 +57,6 @@ module _ (s : State) (from n : ℕ) (old : List ℕ) (room : from + 63 * n ≤ l
   starts = record { inside = omega arith; kept = refl; done = none from old (omega arith); short = omega arith }
 
   module _ (now : List ℕ) (at i : ℕ) (u : Underway s from n old now at i) where
-    pub fits : i < n → at + 63 ≤ length now
-    fits h = omega (arith, u.kept, u.short)
-
     pub goes_on : (new : List ℕ) (to : ℕ) → i < n → length new ≡ length now → {row : Strip} → row ≡ strip_row s (i + 1)
         → Wrote at (strip_line row) now new to × (to ≤ at + 63) → Underway s from n old new to (i + 1)
     goes_on new to h k {row} e w =
@@ -70,9 +67,6 @@ module _ (s : State) (from n : ℕ) (old : List ℕ) (room : from + 63 * n ≤ l
           done = rw (lines_next s i) (then u.done v);
           short = omega (arith, u.short, w.1);
         }
-
-    pub ends : n ≤ i → Wrote from (strip_lines_to s n) old now at
-    ends h = let e : i ≡ n = omega (arith, u.inside) in rw e at u.done
 
 -- ---- half as many strips as points at most
 pub few-strips : (s : State) → (check_of s).strips ≤ 32

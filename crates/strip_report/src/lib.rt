@@ -40,15 +40,13 @@ fn put_strips(state: State, strips: usize, from: usize, buffer: &mut [u8]) -> us
     ensures { Wrote from (strip_lines_to state strips) buffer.old buffer.new result }
 {
     let mut at = from;
-    let mut i: usize = 0;
-    while i < strips {
-        i += 1;
+    for i in 0..strips {
         let strip = strips::row_at(
             &state.plan.norths,
             &state.plan.easts,
             &state.plan.downs,
             &state.plan.courses,
-            i,
+            i + 1,
         );
         at = put_strip(strip, at, buffer);
     }
@@ -78,7 +76,7 @@ fn put_checked(version: u16, state: State, checked: Checked, buffer: &mut [u8]) 
 }
 
 // The strip listing of a file as the newest reader loads it, and its length. In a buffer of fewer than STRIP_LISTING_ROOM bytes nothing is written,
-// and the length is 0.
+// and the length is 0. One generic function with report::listing would be no plainer: each puts its own text by its own lemmas, and few lines are shared.
 pub fn strip_listing(file: &[u8], buffer: &mut [u8]) -> usize
     ensures value { result ≡ listed_length strip_listing_room (strip_listing_of file.now) buffer.old }
     ensures buffer_after { buffer.new ≡ listed_in strip_listing_room (strip_listing_of file.now) buffer.old }

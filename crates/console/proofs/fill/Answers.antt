@@ -6,8 +6,7 @@ use Rattle.console.proofs.fill.Goals as goal
 pub loop-done-preserved : goal.loop-done-preserved
 loop-done-preserved g c =
     let l = c.loop-done in
-    let r = c.read_behind-read in
     record {
-      in_room = omega arith;
-      unchanged = left-further l.done r.result.count _ c.args.room.now l.room r.new.room refl l.invariant.unchanged r.ensures.room_unchanged;
+      in_room = omega (arith, c.in-Ok.ensures.count_in_bounds);
+      unchanged = left-further l.done c.in-Ok.count _ c.args.room.now l.room c.read_behind.new.room refl l.invariant.unchanged c.in-Ok.ensures.room_unchanged;
     }

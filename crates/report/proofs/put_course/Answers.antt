@@ -1,17 +1,15 @@
 -- `put_course` writes a course, or a dash. Assumes nothing.
+use mathlib.Core.Logic.{⊎_elim}
 use native.Mathlib.Omega.{arith}
+use Prim.Native.Nat.{◌+◌, ◌≤◌}
 use Rattle.report.specs.Listing.{course_text}
 use Rattle.report.proofs.put_course.Goals as goal
 
 pub returns-in-Lines : goal.returns-in-Lines
 unfolding course_text
 returns-in-Lines c =
-    rw c.in-Lines.is (c.put_text.ensures, omega (arith, c.put_text.ensures.ends))
-
-pub returns-in-Fillets : goal.returns-in-Fillets
-unfolding course_text
-returns-in-Fillets c =
-    rw c.in-Fillets.is (c.put_text-in-Fillets.ensures, omega (arith, c.put_text-in-Fillets.ensures.ends))
+    let short : c.put_text.result ≤ c.args.at + 21 = omega (arith, c.put_text.ensures.ends) in
+    ⊎_elim (λ e. rw e (c.put_text.ensures, short)) (λ e. rw e (c.put_text.ensures, short)) c.in-Lines.is
 
 pub returns-in-Dubins : goal.returns-in-Dubins
 unfolding course_text

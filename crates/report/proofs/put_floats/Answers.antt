@@ -1,29 +1,13 @@
--- `put_floats` writes the first floats. Assumes nothing.
-use native.Mathlib.Omega.{arith}
-use borrow.Author.Rules.{rules}
-use Rattle.report.proofs.FixLaws.{starts, fits, goes_on, ends}
+-- `put_floats` writes each float behind the one before it. Assumes nothing.
+use Rattle.std.proofs.Common.{rules}
+use Rattle.report.proofs.FixLaws.{starts, goes_on}
 use Rattle.report.proofs.put_floats.Goals as goal
 
-pub loop-i-init : goal.loop-i-init
-loop-i-init c =
-    starts c.args.numbers.now c.args.from c.args.count c.args.buffer.now c.requires.1
+pub loop-x-init : goal.loop-x-init
+loop-x-init c =
+    starts c.args.numbers.now c.args.from _ c.args.buffer.now c.requires
 
-pub put_byte-digits-requires : goal.put_byte-digits-requires
-put_byte-digits-requires c =
-    omega (arith, fits c.args.numbers.now c.args.from c.args.count c.args.buffer.now c.requires.1 _ _ _ c.loop-i.invariant c.loop-i-test.true)
-
-pub put_float-at-requires : goal.put_float-at-requires
-put_float-at-requires c =
-    omega (arith, fits c.args.numbers.now c.args.from c.args.count c.args.buffer.now c.requires.1 _ _ _ c.loop-i.invariant c.loop-i-test.true, c.put_byte-digits.ensures.ends)
-
-pub loop-i-preserved : goal.loop-i-preserved
-loop-i-preserved c =
-    goes_on c.args.numbers.now c.args.from c.args.count c.args.buffer.now c.requires.1 _ _ _ c.loop-i.invariant _ _ _ _ c.loop-i-test.true (search rules)
+pub loop-x-preserved : goal.loop-x-preserved
+loop-x-preserved c =
+    goes_on c.args.numbers.now c.args.from _ c.args.buffer.now c.requires _ _ _ c.loop-x.invariant _ _ _ _ c.loop-x-test.true (search rules)
     c.put_byte-digits.ensures c.put_float-at.ensures.wrote
-
-pub shape_of-buffer : goal.shape_of-buffer
-shape_of-buffer c = c.loop-i.invariant.kept
-
-pub returns : goal.returns
-returns c =
-    ends c.args.numbers.now c.args.from c.args.count c.args.buffer.now c.requires.1 _ _ _ c.loop-i.invariant (omega arith)

@@ -1,10 +1,7 @@
--- What the loops of `put_floats` keep, and what falls with each round. Assumes nothing.
-use Prim.Native.Nat.{◌-◌}
+-- What the loop of `put_floats` keeps. Assumes nothing.
+use Rattle.std.proofs.Common.{length}
 use Rattle.report.proofs.FixLaws.{Floating}
 use Rattle.report.proofs.put_floats.Given as goal
 
-abbrev pub invariant-loop-i : goal.invariant-loop-i
-invariant-loop-i l = Floating l.numbers l.from l.count l.initial.buffer l.buffer l.at l.i
-
-abbrev pub decreases-loop-i : goal.decreases-loop-i
-decreases-loop-i l = l.count - l.i
+abbrev pub invariant-loop-x : goal.invariant-loop-x
+invariant-loop-x l = Floating l.numbers l.from (length l.numbers) l.initial.buffer l.buffer l.at l.x-index

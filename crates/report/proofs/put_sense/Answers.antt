@@ -7,6 +7,6 @@ pub returns-then-sense-eq1 : goal.returns-then-sense-eq1
 returns-then-sense-eq1 c =
     rw (sense-right c.args.sense c.if-sense-eq1.true) (c.put_text.ensures, omega (arith, c.put_text.ensures.ends))
 
-pub returns : goal.returns
-returns c =
-    rw (sense-left c.args.sense c.if-sense-eq1.false) (c.put_text-2.ensures, omega (arith, c.put_text-2.ensures.ends))
+pub returns-else-sense-eq1 : goal.returns-else-sense-eq1
+returns-else-sense-eq1 c =
+    rw (sense-left c.args.sense c.if-sense-eq1.false) (c.put_text-else-sense-eq1.ensures, omega (arith, c.put_text-else-sense-eq1.ensures.ends))

@@ -3,7 +3,7 @@ use mathlib.Core.Path.{refl, sym, ◌∙◌}
 use native.Mathlib.Omega.{arith}
 use borrow.Author.Rules.{rules}
 use Rattle.strips.proofs.RowLaws.{row-there, row_of}
-use Rattle.strip_report.proofs.StripListingLaws.{starts, fits, goes_on, ends}
+use Rattle.strip_report.proofs.StripListingLaws.{starts, goes_on}
 use Rattle.strip_report.proofs.put_strips.Goals as goal
 
 pub loop-i-init : goal.loop-i-init
@@ -14,18 +14,7 @@ pub row_at-strip-requires : goal.row_at-strip-requires
 row_at-strip-requires c =
     row-there c.args.state (search rules) refl (omega arith) (omega (arith, c.requires.0))
 
-pub put_strip-at-requires : goal.put_strip-at-requires
-put_strip-at-requires c =
-    fits c.args.state c.args.from c.args.strips c.args.buffer.now c.requires.1 _ _ _ c.loop-i.invariant (omega arith)
-
 pub loop-i-preserved : goal.loop-i-preserved
 loop-i-preserved c =
     goes_on c.args.state c.args.from c.args.strips c.args.buffer.now c.requires.1 _ _ _ c.loop-i.invariant _ _ (omega arith) (search rules)
     (c.row_at-strip.ensures ∙ sym (row_of c.args.state refl (omega arith) (omega (arith, c.requires.0)))) c.put_strip-at.ensures
-
-pub shape_of-buffer : goal.shape_of-buffer
-shape_of-buffer c = c.loop-i.invariant.kept
-
-pub returns : goal.returns
-returns c =
-    ends c.args.state c.args.from c.args.strips c.args.buffer.now c.requires.1 _ _ _ c.loop-i.invariant (omega arith)
