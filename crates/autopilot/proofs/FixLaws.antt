@@ -17,13 +17,13 @@ use Rattle.refusals.proofs.OutcomeLaws.{never-good}
 use Rattle.buffers.specs.Splice.{over, splice}
 use Rattle.units.specs.declared.Fix.{Fix}
 use Rattle.guidance.specs.declared.Command.TheVariants.{Nothing}
-use Rattle.plan.specs.declared.Head.{Head}
+use Rattle.plan.specs.declared.Plan.{Plan}
 use Rattle.plan.specs.Places.{seen}
 use Rattle.manager.specs.declared.State.{State}
 use Rattle.manager.specs.declared.Progress.{Progress}
 use Rattle.manager.specs.declared.Decided.{Decided}
 use Rattle.manager.specs.declared.Stepped.{Stepped}
-use Rattle.manager.specs.State.{viewed}
+use Rattle.manager.specs.State.{state_of}
 use Rattle.manager.specs.Step.{stepped_by, step_of}
 use Rattle.manager.proofs.StepLaws.{step-refused}
 use Rattle.c_answer.specs.Words.{answer_words, command_numbers}
@@ -51,16 +51,10 @@ module _ (state : List ℤ) (answer : List ℕ) (command : List Float) where
 -- ---- what words hold
 module _ (ws : List ℤ) where
   -- what is decided of the parts that are lent
-  pub decided-there : (serial : ℕ) (fix : Fix) {h : Head} {p : Progress} {d : Decided} → h ≡ head_at ws → p ≡ progress_at ws
-      → stepped_by (seen h (part norths_place ws) (part easts_place ws) (part downs_place ws) (part courses_place ws)) d
-      ≡ step_of (viewed h p (part norths_place ws) (part easts_place ws) (part downs_place ws) (part courses_place ws)) serial fix
-      → stepped_by (plan_at ws) d ≡ step_of (state_at ws) serial fix
+  pub decided-there : (serial : ℕ) (fix : Fix) {plan : Plan} {p : Progress} {d : Decided} → plan ≡ plan_at ws → p ≡ progress_at ws
+      → stepped_by plan d ≡ step_of (state_of plan p) serial fix → stepped_by (plan_at ws) d ≡ step_of (state_at ws) serial fix
   decided-there serial fix {d = d} e f k =
-      let n = part norths_place ws in
-      let a = part easts_place ws in
-      let b = part downs_place ws in
-      let c = part courses_place ws in
-      ap (λ (h : Head). stepped_by (seen h n a b c) d) (sym e) ∙ k ∙ (λ t. step_of (viewed (e t) (f t) n a b c) serial fix)
+      ap (λ (plan : Plan). stepped_by plan d) (sym e) ∙ k ∙ (λ t. step_of (state_of (e t) (f t)) serial fix)
 
 -- ---- fix
 module _ (b : Bool) (ws : List ℤ) (serial : ℕ) (fix : Fix) (answer : List ℕ) (command : List Float) where

@@ -73,16 +73,7 @@ fn decide_at(words: &[i32], serial: u32, fix: Fix) -> Decided
     ensures result_value { stepped_by (plan_at words.now) result ≡ step_of (state_at words.now) serial fix }
     ensures are_words { AreWords serial_place index_place words.now × AreWords index_place norths_place words.now }
 {
-    manager::decide(
-        c_state::head_at(words),
-        c_state::progress_at(words),
-        serial,
-        fix,
-        &words[c_state::NORTHS_PLACE..c_state::EASTS_PLACE],
-        &words[c_state::EASTS_PLACE..c_state::DOWNS_PLACE],
-        &words[c_state::DOWNS_PLACE..c_state::COURSES_PLACE],
-        &words[c_state::COURSES_PLACE..c_state::STATE_LENGTH],
-    )
+    manager::decide(&c_state::plan_at(words), c_state::progress_at(words), serial, fix)
 }
 
 // The answer of words that hold no state, with their index, phase and finished as they stand.
@@ -148,16 +139,7 @@ fn write_at(words: &[i32], version: u32, file: &mut [u8]) -> Written
     ensures value { result ≡ written_of (write_of (state_at words.now) version (length file.old)) }
     ensures file_after { file.new ≡ buffer_of (write_of (state_at words.now) version (length file.old)) file.old }
 {
-    wpl::write_from(
-        c_state::head_at(words),
-        c_state::progress_at(words),
-        &words[c_state::NORTHS_PLACE..c_state::EASTS_PLACE],
-        &words[c_state::EASTS_PLACE..c_state::DOWNS_PLACE],
-        &words[c_state::DOWNS_PLACE..c_state::COURSES_PLACE],
-        &words[c_state::COURSES_PLACE..c_state::STATE_LENGTH],
-        version,
-        file,
-    )
+    wpl::write_from(&c_state::plan_at(words), c_state::progress_at(words), version, file)
 }
 
 // Writes the plan of a state as a file of a version. Refused, nothing of the file is written.
@@ -192,15 +174,7 @@ fn distances_at(words: &[i32], table: &mut [u32]) -> Refusal
     ensures table_after { table.new ≡ table_of (distances_in (taken_of words.now) (length table.old)) table.old }
 {
     if c_state::holds_state(words) {
-        return distance::distances_from(
-            c_state::head_at(words),
-            c_state::progress_at(words),
-            &words[c_state::NORTHS_PLACE..c_state::EASTS_PLACE],
-            &words[c_state::EASTS_PLACE..c_state::DOWNS_PLACE],
-            &words[c_state::DOWNS_PLACE..c_state::COURSES_PLACE],
-            &words[c_state::COURSES_PLACE..c_state::STATE_LENGTH],
-            table,
-        );
+        return distance::distances_from(&c_state::plan_at(words), c_state::progress_at(words), table);
     }
     Refusal {
         number: refusals::NO_STATE,
@@ -231,14 +205,7 @@ fn distance_at(words: &[i32]) -> Measured
     ensures { result ≡ distance_by (distance_in (taken_of words.now)) }
 {
     if c_state::holds_state(words) {
-        return distance::distance_from(
-            c_state::head_at(words),
-            c_state::progress_at(words),
-            &words[c_state::NORTHS_PLACE..c_state::EASTS_PLACE],
-            &words[c_state::EASTS_PLACE..c_state::DOWNS_PLACE],
-            &words[c_state::DOWNS_PLACE..c_state::COURSES_PLACE],
-            &words[c_state::COURSES_PLACE..c_state::STATE_LENGTH],
-        );
+        return distance::distance_from(&c_state::plan_at(words), c_state::progress_at(words));
     }
     Measured {
         refusal: refusals::NO_STATE,

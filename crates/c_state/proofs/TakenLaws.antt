@@ -10,10 +10,10 @@ use Rattle.conditions.proofs.Bools.{both_first, both-second}
 use Rattle.refusals.specs.Numbers.{no_state}
 use Rattle.refusals.specs.Outcome.{good, refused}
 use Rattle.refusals.proofs.OutcomeLaws.{check-true, check-false}
-use Rattle.plan.specs.declared.Head.{Head}
+use Rattle.plan.specs.declared.Plan.{Plan}
 use Rattle.manager.specs.declared.Progress.{Progress}
-use Rattle.manager.specs.State.{viewed}
-use Rattle.c_state.specs.Stored.{norths_place, easts_place, downs_place, courses_place, state_length, head_at, progress_at, part, state_at, holds_state, taken_of, pair_fits}
+use Rattle.manager.specs.State.{state_of}
+use Rattle.c_state.specs.Stored.{state_length, progress_at, plan_at, state_at, holds_state, taken_of, pair_fits}
 
 pub pair-means : (s a least : ℕ) → pair_fits s a least ≡ true → (state_length ≤ s) × (least ≤ a)
 unfolding pair_fits
@@ -28,6 +28,5 @@ module _ (ws : List ℤ) where
   unfolding taken_of
   not-held h = check-false _ no_state _ h
 
-  pub state-there : {h : Head} {p : Progress} → h ≡ head_at ws → p ≡ progress_at ws
-      → viewed h p (part norths_place ws) (part easts_place ws) (part downs_place ws) (part courses_place ws) ≡ state_at ws
-  state-there e f = λ t. viewed (e t) (f t) (part norths_place ws) (part easts_place ws) (part downs_place ws) (part courses_place ws)
+  pub state-there : {plan : Plan} {p : Progress} → plan ≡ plan_at ws → p ≡ progress_at ws → state_of plan p ≡ state_at ws
+  state-there e f = λ t. state_of (e t) (f t)

@@ -6,11 +6,12 @@ ghost use Rattle.std.specs.Int.{w32};
 ghost use Rattle.std.proofs.Common.{SFits};
 ghost use Rattle.buffers.specs.Splice.{over, splice};
 ghost use Rattle.plan.specs.Places.{number_at};
+ghost use Rattle.plan.specs.Lent.{lent_plan};
 ghost use Rattle.c_state.specs.Layout.{Layout, Edges};
-ghost use Rattle.c_state.specs.Stored.{serial_place, index_place, norths_place, state_length, mode_word, mode_at, in_words, head_words, progress_words, word_at, head_at, progress_at, holds_state, pair_fits, AreWords};
+ghost use Rattle.c_state.specs.Stored.{serial_place, index_place, norths_place, state_length, mode_word, mode_at, in_words, head_words, progress_words, word_at, head_at, progress_at, plan_at, holds_state, pair_fits, AreWords};
 
 use manager::Progress;
-use plan::{Head, Mode};
+use plan::{Head, Lent, Mode};
 
 // Where a state's words stand: these seven, then as many norths, easts, downs and courses as a plan has places.
 pub const SERIAL_PLACE: usize = 0;
@@ -112,6 +113,20 @@ pub fn head_at(words: &[i32]) -> Head
         mode: mode_at(word_at(words, MODE_PLACE)),
         radius: word_at(words, RADIUS_PLACE) as u16,
         count: word_at(words, COUNT_PLACE) as usize,
+    }
+}
+
+// The plan of words that hold a state, lent as its blocks lie. All words of its head are read.
+pub fn plan_at(words: &[i32]) -> Lent<'_>
+    requires { (state_length ≤ length words.now) × (holds_state words.now ≡ true) }
+    ensures { (lent_plan result ≡ plan_at words.now) × AreWords serial_place index_place words.now }
+{
+    Lent {
+        head: head_at(words),
+        norths: &words[NORTHS_PLACE..EASTS_PLACE],
+        easts: &words[EASTS_PLACE..DOWNS_PLACE],
+        downs: &words[DOWNS_PLACE..COURSES_PLACE],
+        courses: &words[COURSES_PLACE..STATE_LENGTH],
     }
 }
 

@@ -105,15 +105,7 @@ fn told_at(words: &[i32], number: usize) -> Told
     ensures strip_value { result.strip ≡ strip_row_in (taken_of words.now) number }
 {
     if c_state::holds_state(words) {
-        return strips::told_from(
-            c_state::head_at(words),
-            c_state::progress_at(words),
-            number,
-            &words[c_state::NORTHS_PLACE..c_state::EASTS_PLACE],
-            &words[c_state::EASTS_PLACE..c_state::DOWNS_PLACE],
-            &words[c_state::DOWNS_PLACE..c_state::COURSES_PLACE],
-            &words[c_state::COURSES_PLACE..c_state::STATE_LENGTH],
-        );
+        return strips::told_from(&c_state::plan_at(words), c_state::progress_at(words), number);
     }
     let checked = Checked {
         refusal: refusals::NO_STATE,

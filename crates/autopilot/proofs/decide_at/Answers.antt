@@ -5,4 +5,4 @@ use Rattle.autopilot.proofs.decide_at.Goals as goal
 pub returns : goal.returns
 returns c =
     let a = c.args in
-    record { result_value = decided-there a.words.now a.serial a.fix c.head_at.ensures.0 c.progress_at.ensures.0 c.decide.ensures; are_words = (c.head_at.ensures.1, c.progress_at.ensures.1) }
+    record { result_value = decided-there a.words.now a.serial a.fix c.plan_at.ensures.0 c.progress_at.ensures.0 c.decide.ensures; are_words = (c.plan_at.ensures.1, c.progress_at.ensures.1) }

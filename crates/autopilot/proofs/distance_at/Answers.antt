@@ -6,8 +6,8 @@ use Rattle.c_state.proofs.TakenLaws.{state-there}
 use Rattle.autopilot.proofs.DistanceLaws.{distance-held, distance-unheld}
 use Rattle.autopilot.proofs.distance_at.Goals as goal
 
-pub head_at-requires : goal.head_at-requires
-head_at-requires c = (c.requires, sym c.holds_state.ensures.value ∙ c.if-holds_state.true)
+pub plan_at-requires : goal.plan_at-requires
+plan_at-requires c = (c.requires, sym c.holds_state.ensures.value ∙ c.if-holds_state.true)
 
 pub progress_at-requires : goal.progress_at-requires
 progress_at-requires c = (c.requires, sym c.holds_state.ensures.value ∙ c.if-holds_state.true)
@@ -15,7 +15,7 @@ progress_at-requires c = (c.requires, sym c.holds_state.ensures.value ∙ c.if-h
 pub returns-then-holds_state : goal.returns-then-holds_state
 returns-then-holds_state c =
     let ws = c.args.words.now in
-    let v = state-there ws c.head_at.ensures.0 c.progress_at.ensures.0 in
+    let v = state-there ws c.plan_at.ensures.0 c.progress_at.ensures.0 in
     let h = sym c.holds_state.ensures.value ∙ c.if-holds_state.true in
     c.distance_from.ensures ∙ ap (λ (s : State). distance_by (distance_of s)) v ∙ ap distance_by (sym (distance-held ws h))
 

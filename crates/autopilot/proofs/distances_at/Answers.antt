@@ -10,8 +10,8 @@ use Rattle.c_state.proofs.TakenLaws.{state-there}
 use Rattle.autopilot.proofs.DistanceLaws.{distances-held, distances-unheld}
 use Rattle.autopilot.proofs.distances_at.Goals as goal
 
-pub head_at-requires : goal.head_at-requires
-head_at-requires c = (c.requires, sym c.holds_state.ensures.value ∙ c.if-holds_state.true)
+pub plan_at-requires : goal.plan_at-requires
+plan_at-requires c = (c.requires, sym c.holds_state.ensures.value ∙ c.if-holds_state.true)
 
 pub progress_at-requires : goal.progress_at-requires
 progress_at-requires c = (c.requires, sym c.holds_state.ensures.value ∙ c.if-holds_state.true)
@@ -21,7 +21,7 @@ returns-then-holds_state c =
     let a = c.args in
     let ws = a.words.now in
     let table = a.table.now in
-    let v = state-there ws c.head_at.ensures.0 c.progress_at.ensures.0 in
+    let v = state-there ws c.plan_at.ensures.0 c.progress_at.ensures.0 in
     let e = ap (λ (s : State). distances_of s (length table)) v ∙ sym (distances-held ws (length table) (sym c.holds_state.ensures.value ∙ c.if-holds_state.true)) in
     record { value = c.distances_from.ensures.value ∙ ap refusal_of e; table_after = c.distances_from.ensures.table_after ∙ ap (λ (o : Outcome (List ℕ)). table_of o table) e }
 

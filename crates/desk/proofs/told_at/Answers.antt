@@ -6,8 +6,8 @@ use Rattle.c_state.proofs.TakenLaws.{state-there}
 use Rattle.desk.proofs.StripsLaws.{check-held, check-unheld, row-held, row-unheld}
 use Rattle.desk.proofs.told_at.Goals as goal
 
-pub head_at-requires : goal.head_at-requires
-head_at-requires c = (c.requires, sym c.holds_state.ensures.value ∙ c.if-holds_state.true)
+pub plan_at-requires : goal.plan_at-requires
+plan_at-requires c = (c.requires, sym c.holds_state.ensures.value ∙ c.if-holds_state.true)
 
 pub progress_at-requires : goal.progress_at-requires
 progress_at-requires c = (c.requires, sym c.holds_state.ensures.value ∙ c.if-holds_state.true)
@@ -15,7 +15,7 @@ progress_at-requires c = (c.requires, sym c.holds_state.ensures.value ∙ c.if-h
 pub returns-then-holds_state : goal.returns-then-holds_state
 returns-then-holds_state c =
     let a = c.args in
-    let v = state-there a.words.now c.head_at.ensures.0 c.progress_at.ensures.0 in
+    let v = state-there a.words.now c.plan_at.ensures.0 c.progress_at.ensures.0 in
     let h = sym c.holds_state.ensures.value ∙ c.if-holds_state.true in record { checked_value = c.told_from.ensures.checked_value ∙ ap (λ (s : State). check_of s) v ∙ sym (check-held _ h); strip_value = c.told_from.ensures.strip_value ∙ ap (λ (s : State). strip_row s a.number) v ∙ sym (row-held _ _ h) }
 
 pub returns : goal.returns
