@@ -231,7 +231,7 @@ pub fn load(file: &[u8], reader: u32) -> Loaded
     }
 }
 
-// The first refusal of a file for a reader of a version, with its place; both are 0 for none.
+// The first refusal of a file for a reader of a version, with its place; both are 0 for none: no Option, as its clauses and C have two numbers.
 pub fn refusal(file: &[u8], reader: u32) -> Refusal
     ensures number_value { result.number ≡ (loaded_of (load_of reader file.now)).refusal }
     ensures place_value { result.place ≡ (loaded_of (load_of reader file.now)).place }
