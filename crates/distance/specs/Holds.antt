@@ -1,6 +1,6 @@
 -- Holds clauses 6.7, 7.16, 21.1 to 21.5, 21.7: what tables come to, in plans whose lengths are worked out by hand. A definition that is changed together with the code
 -- that it describes is refused here. Assumes nothing.
-use Rattle.std.specs.Prelude.{◌≡◌, true, List, [], ◌∷◌, ℕ, pos, negsuc}
+use Rattle.std.specs.Prelude.{◌≡◌, true, List, [], ◌∷◌, ℕ, pos, negsuc, Ok, Err}
 use Rattle.conditions.specs.All.{All}
 use Rattle.refusals.specs.Outcome.{good, refused}
 use Rattle.plane.specs.declared.Point.{Point}
@@ -8,7 +8,7 @@ use Rattle.plane.specs.Samples.{point, ground}
 use Rattle.plan.specs.Loaded.{plan_of}
 use Rattle.manager.specs.declared.State.{State}
 use Rattle.manager.specs.State.{empty_state, start_of}
-use Rattle.distance.specs.Table.{entries_of, distances_of, table_of, distance_of, distance_by}
+use Rattle.distance.specs.Table.{entries_of, distances_of, distances_by, table_of, distance_of, distance_by}
 
 -- ---- what an example says: of a radius, points and courses, the entries from 2 on
 pub data TableExample : Type 0 where
@@ -48,10 +48,12 @@ pub record DistancesHold : Type 0 where
   pub room : distances_of started 4 ≡ good (1500 ∷ 1000 ∷ [])
   pub short : distances_of started 3 ≡ refused 16 0
   pub unsound : distances_of empty_state 0 ≡ refused 14 0
+  pub told : distances_by (distances_of started 4) ≡ Ok tt
+  pub full : distances_by (distances_of started 3) ≡ Err (record { number = 16; place = 0 })
   -- entries 0 and 1 and those behind stay
   pub written : table_of (good (1500 ∷ 1000 ∷ [])) (7 ∷ 8 ∷ 9 ∷ 10 ∷ 11 ∷ []) ≡ 7 ∷ 8 ∷ 1500 ∷ 1000 ∷ 11 ∷ []
   pub unwritten : table_of (refused 16 0) (7 ∷ 8 ∷ 9 ∷ []) ≡ 7 ∷ 8 ∷ 9 ∷ []
   -- by the index, a flight that is finished too: its leg is still the last
-  pub start : distance_by (distance_of started) ≡ record { refusal = 0; place = 0; left = 1500 }
-  pub last : distance_by (distance_of on_the_last) ≡ record { refusal = 0; place = 0; left = 1000 }
-  pub none : distance_by (distance_of empty_state) ≡ record { refusal = 14; place = 0; left = 0 }
+  pub start : distance_by (distance_of started) ≡ Ok 1500
+  pub last : distance_by (distance_of on_the_last) ≡ Ok 1000
+  pub none : distance_by (distance_of empty_state) ≡ Err (record { number = 14; place = 0 })

@@ -1,13 +1,13 @@
 -- Clauses 6.7, 7.16, 8.3, 15.1, 21.5 to 21.7: the table of a plan and the distance at a state: what is answered, what a lent table holds afterwards, and
 -- what both owe the sums of Lengths. Assumes nothing.
-use Rattle.std.specs.Prelude.{◌≡◌, true, List, [], ◌∷◌, ℕ, zero, suc, ◌+◌, ◌-◌, ◌≤◌, ◌<◌, leb, length, get_or}
+use Rattle.std.specs.Prelude.{◌≡◌, true, List, [], ◌∷◌, ℕ, zero, suc, ◌+◌, ◌-◌, ◌≤◌, ◌<◌, leb, length, get_or, Result, Ok, Err}
+use Rattle.refusals.specs.declared.Refusal.{Refusal}
 use Rattle.refusals.specs.Numbers.{no_state, no_room}
 use Rattle.refusals.specs.Outcome.{Outcome, good, refused, check}
 use Rattle.buffers.specs.Splice.{splice}
 use Rattle.plan.specs.declared.Plan.{Plan}
 use Rattle.manager.specs.declared.State.{State}
 use Rattle.manager.specs.State.{valid_of}
-use Rattle.distance.specs.declared.Measured.{Measured}
 use Rattle.distance.specs.Lengths.{entry_of}
 
 -- ---- 21.5: the table
@@ -24,6 +24,11 @@ entries_of p = entries_from p (p.head.count - 1) 2
 unfoldable pub distances_of : State → ℕ → Outcome (List ℕ)
 distances_of s room = check (valid_of s) no_state (check (leb (s.plan.head.count + 1) room) no_room (good (entries_of s.plan)))
 
+-- as the function answers it
+unfoldable pub distances_by : Outcome (List ℕ) → Result Unit Refusal
+distances_by (good entries) = Ok tt
+distances_by (refused number place) = Err (record { number = number; place = place })
+
 -- the lent table afterwards: its entries from 2 on, and no other; refused, none
 unfoldable pub table_of : Outcome (List ℕ) → List ℕ → List ℕ
 table_of (good entries) table = splice 2 entries table
@@ -33,9 +38,9 @@ table_of (refused number place) table = table
 unfoldable pub distance_of : State → Outcome ℕ
 distance_of s = check (valid_of s) no_state (good (entry_of s.plan s.progress.index))
 
-unfoldable pub distance_by : Outcome ℕ → Measured
-distance_by (good n) = record { refusal = 0; place = 0; left = n }
-distance_by (refused number place) = record { refusal = number; place = place; left = 0 }
+unfoldable pub distance_by : Outcome ℕ → Result ℕ Refusal
+distance_by (good n) = Ok n
+distance_by (refused number place) = Err (record { number = number; place = place })
 
 -- ---- 21.6: what a table owes the plan: each entry from 2 to the number of points is the sum, and everything else is what it was
 abbrev pub Inside : Plan → ℕ → Type 0

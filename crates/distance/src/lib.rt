@@ -3,7 +3,6 @@
 #![tactic(auto)]
 
 ghost use Rattle.std.specs.Prelude.{◌≡◌, true, ℕ, ◌+◌, ◌-◌, ◌≤◌, ◌<◌, length};
-ghost use Rattle.refusals.specs.Outcome.{refusal_of};
 ghost use Rattle.plan.specs.declared.Mode.TheVariants.{Fillets};
 ghost use Rattle.plan.specs.Limits.{most_radius};
 ghost use Rattle.plan.specs.Places.{plan_point};
@@ -11,7 +10,7 @@ ghost use Rattle.plan.specs.Stands.{IsLevelLeg};
 ghost use Rattle.plan.specs.Lent.{lent_plan, PointPlaced};
 ghost use Rattle.manager.specs.State.{state_of};
 ghost use Rattle.distance.specs.Lengths.{level_length, plan_length};
-ghost use Rattle.distance.specs.Table.{distances_of, table_of, distance_of, distance_by, Summary, OneTable, AtIndex};
+ghost use Rattle.distance.specs.Table.{distances_of, distances_by, table_of, distance_of, distance_by, Summary, OneTable, AtIndex};
 ghost use Rattle.distance.specs.Pass.{Sound, CornerThere, Rounded, AddedUp, told_from};
 ghost use Rattle.distance.specs.Kept.{TableKept, ToldAtTheLoad};
 ghost use Rattle.distance.specs.Holds.{DistancesHold};
@@ -19,14 +18,6 @@ ghost use Rattle.distance.specs.Holds.{DistancesHold};
 use manager::{Progress, State};
 use plan::{Lent, LevelLeg, Mode};
 use refusals::Refusal;
-
-// What is left from the index of a state on, in decimetres; 0 where that is refused.
-#[derive(Clone, Copy)]
-pub struct Measured {
-    pub refusal: u8,
-    pub place: usize,
-    pub left: u32,
-}
 
 // A corner of a fillet plan: the length of its arc and its tangent length, and the leg to it.
 #[derive(Clone, Copy)]
@@ -37,6 +28,7 @@ struct Rounding {
 }
 
 // What the pass carries to the leg that ends at a place: all that lies behind it, and in fillets the corner there, which is not in that yet.
+// No Option for the corner: a step over a leg of fillets would get an arm for none, which never runs.
 #[derive(Clone, Copy)]
 struct Carry {
     left: u64,
@@ -154,51 +146,33 @@ fn measure(plan: &Lent, place: usize, table: &mut [u32]) -> u32
 }
 
 // The table of a plan that is lent and how far it is flown. Refused, nothing is written.
-pub fn distances_from(plan: &Lent, progress: Progress, table: &mut [u32]) -> Refusal
-    ensures value { result ≡ refusal_of (distances_of (state_of (lent_plan plan.now) progress) (length table.old)) }
+pub fn distances_from(plan: &Lent, progress: Progress, table: &mut [u32]) -> Result<(), Refusal>
+    ensures value { result ≡ distances_by (distances_of (state_of (lent_plan plan.now) progress) (length table.old)) }
     ensures table_after { table.new ≡ table_of (distances_of (state_of (lent_plan plan.now) progress) (length table.old)) table.old }
 {
     if !manager::valid(plan, progress) {
-        return Refusal {
-            number: refusals::NO_STATE,
-            place: 0,
-        };
+        return Err(refusals::failed(refusals::NO_STATE));
     }
     if table.len() <= plan.head.count {
-        return Refusal {
-            number: refusals::NO_ROOM,
-            place: 0,
-        };
+        return Err(refusals::failed(refusals::NO_ROOM));
     }
     measure(plan, 1, table);
-    Refusal {
-        number: 0,
-        place: 0,
-    }
+    Ok(())
 }
 
-// What is left of a plan that is lent from the index on to which it is flown.
-pub fn distance_from(plan: &Lent, progress: Progress) -> Measured
+// What is left of a plan that is lent from the index on to which it is flown, in decimetres.
+pub fn distance_from(plan: &Lent, progress: Progress) -> Result<u32, Refusal>
     ensures { result ≡ distance_by (distance_of (state_of (lent_plan plan.now) progress)) }
 {
     if !manager::valid(plan, progress) {
-        return Measured {
-            refusal: refusals::NO_STATE,
-            place: 0,
-            left: 0,
-        };
+        return Err(refusals::failed(refusals::NO_STATE));
     }
-    let left = measure(plan, progress.index - 1, &mut []);
-    Measured {
-        refusal: 0,
-        place: 0,
-        left,
-    }
+    Ok(measure(plan, progress.index - 1, &mut []))
 }
 
 // The distance to go from each index of a state's plan on, as entries 2 to the number of points of a table. Refused, nothing is written.
-pub fn distances(state: State, table: &mut [u32]) -> Refusal
-    ensures value { result ≡ refusal_of (distances_of state (length table.old)) }
+pub fn distances(state: State, table: &mut [u32]) -> Result<(), Refusal>
+    ensures value { result ≡ distances_by (distances_of state (length table.old)) }
     ensures table_after { table.new ≡ table_of (distances_of state (length table.old)) table.old }
     ensures summary { Summary state table.old table.new × OneTable }
     ensures table_kept { TableKept × DistancesHold }
@@ -206,8 +180,8 @@ pub fn distances(state: State, table: &mut [u32]) -> Refusal
     distances_from(&state.plan.lent(), state.progress, table)
 }
 
-// The distance to go from a state's index on.
-pub fn distance(state: State) -> Measured
+// The distance to go from a state's index on, in decimetres.
+pub fn distance(state: State) -> Result<u32, Refusal>
     ensures { (result ≡ distance_by (distance_of state)) × (AtIndex × ToldAtTheLoad) }
 {
     distance_from(&state.plan.lent(), state.progress)

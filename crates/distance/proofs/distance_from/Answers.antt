@@ -1,9 +1,12 @@
--- `distance_from` asks 14, and then adds up from the state's index on, telling no entry. Assumes nothing.
+-- `distance_from` asks 14, and then adds up from the index on, with no table. Assumes nothing.
 use mathlib.Core.Path.{sym, ap, ◌∙◌}
 use Prim.Native.Nat.{ℕ}
 use native.Mathlib.Omega.{arith}
-use Rattle.manager.specs.declared.State.{State}
+use Rattle.std.proofs.Common.{Result, Ok, Err}
+use Rattle.refusals.specs.declared.Refusal.{Refusal}
+use Rattle.refusals.specs.Outcome.{check, refusal_of}
 use Rattle.plan.specs.Lent.{lent_plan}
+use Rattle.manager.specs.declared.State.{State}
 use Rattle.manager.specs.State.{state_of}
 use Rattle.manager.proofs.StateLaws.{last-is}
 use Rattle.distance.specs.Lengths.{entry_of}
@@ -16,24 +19,30 @@ use Rattle.distance.proofs.distance_from.Goals.{Start}
 abbrev state : Start → State
 state s = state_of (lent_plan s.args.plan.now) s.args.progress
 
+-- a refusal and a length as answers
+abbrev refused_with : Refusal → Result ℕ Refusal
+refused_with r = Err r
+
+abbrev answered_with : ℕ → Result ℕ Refusal
+answered_with n = Ok n
+
 pub returns-then-not-valid : goal.returns-then-not-valid
-unfolding distance_by
+unfolding distance_by refusal_of check
 returns-then-not-valid c =
-    ap distance_by (sym (distance-refused (state (goal.at.returns-then-not-valid c).Start) (sym c.valid.ensures.0 ∙ c.if-not-valid.true)))
+    ap refused_with c.failed.ensures.value
+    ∙ ap distance_by (sym (distance-refused (state (goal.at.returns-then-not-valid c).Start) (sym c.valid.ensures.0 ∙ c.if-not-valid.true)))
 
 pub overflow_sub-progress : goal.overflow_sub-progress
-overflow_sub-progress c =
-    let w = c.valid.ensures.1 (c.if-not-valid.false) in
-    omega (arith, w.least)
+overflow_sub-progress c = let w = c.valid.ensures.1 c.if-not-valid.false in omega (arith, w.least)
 
-pub measure-left-requires : goal.measure-left-requires
-measure-left-requires c =
+pub measure-requires : goal.measure-requires
+measure-requires c =
     let t = c.if-not-valid.false in
     let w = c.valid.ensures.1 t in
-    record { sound = sound-of (state (goal.at.measure-left-requires c).Start) (sym c.valid.ensures.0 ∙ t); le_place = (omega (arith, w.least), omega (arith, w.least, w.most, last-is c.args.plan.now.head.count)) }
+    record { sound = sound-of (state (goal.at.measure-requires c).Start) (sym c.valid.ensures.0 ∙ t); le_place = (omega (arith, w.least), omega (arith, w.least, w.most, last-is c.args.plan.now.head.count)) }
 
 pub returns : goal.returns
 unfolding distance_by entry_of
 returns c =
     let e = distance-answered (state (goal.at.returns c).Start) (sym c.valid.ensures.0 ∙ c.if-not-valid.false) in
-    ap (λ (n : ℕ). record { refusal = 0; place = 0; left = n }) c.measure-left.ensures.value ∙ ap distance_by (sym e)
+    ap answered_with c.measure.ensures.value ∙ ap distance_by (sym e)
