@@ -5,3 +5,4 @@ pub mod ShortestLaws
 pub mod FarLaws
 mod LeastLaws
 mod OrderLaws
+pub mod SideLaws

@@ -1,6 +1,6 @@
 -- Clauses 12.1 to 12.6, 12.8, 12.9, 12.12: one case of a leg, in the rules' order and symbols. R is the radius, χs and χe are the courses to
 -- leave and to arrive on, v runs between the centres, s is the straight part and θ its course. Assumes nothing.
-use Rattle.std.specs.Prelude.{Bool, true, false, not, ℕ, ◌+◌, ◌-◌, ◌*◌, leb, ltb, pos, ◌+ℤ◌, ◌-ℤ◌, ◌*ℤ◌}
+use Rattle.std.specs.Prelude.{◌≡◌, Bool, true, false, not, ℕ, ◌+◌, ◌-◌, ◌*◌, ◌%◌, eqb, leb, ltb, pos, ◌+ℤ◌, ◌-ℤ◌, ◌*ℤ◌}
 use Rattle.conditions.specs.Choose.{choose}
 use Rattle.integers.specs.Root.{root_of}
 use Rattle.integers.specs.Wrap.{wrap_of}
@@ -34,6 +34,17 @@ ends_right Rsr = true
 ends_right Rsl = false
 ends_right Lsr = true
 ends_right Lsl = false
+
+-- the same by a number, of any other than these four too
+unfoldable pub right_at_start : ℕ → Bool
+right_at_start case = leb case 2
+
+unfoldable pub right_at_end : ℕ → Bool
+right_at_end case = eqb (case % 2) 1
+
+pub record SidesByNumber : Type 0 where
+  pub starts : (case : Case) → right_at_start (number_of case) ≡ starts_right case
+  pub ends : (case : Case) → right_at_end (number_of case) ≡ ends_right case
 
 -- RSR and LSL, and not RSL and LSR
 unfoldable pub same_side : Case → Bool

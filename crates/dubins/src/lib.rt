@@ -8,7 +8,7 @@ ghost use Rattle.plane.specs.Area.{InArea};
 ghost use Rattle.plane.specs.Level.{minus};
 ghost use Rattle.dubins.specs.declared.Path.{Path};
 ghost use Rattle.dubins.specs.Limits.{IsEnds, IsCircles, IsPath, IsFound};
-ghost use Rattle.dubins.specs.Cases.{starts_right, ends_right, same_side, centre_of, circles_of, tangent_exists, straight_of, inner_tangent, straight_course, arc_turn, case_length, touch_of, path_of, case_exists};
+ghost use Rattle.dubins.specs.Cases.{starts_right, ends_right, right_at_start, right_at_end, SidesByNumber, same_side, centre_of, circles_of, tangent_exists, straight_of, inner_tangent, straight_course, arc_turn, case_length, touch_of, path_of, case_exists};
 ghost use Rattle.dubins.specs.Choice.{case_path, shorter_of, shortest_of, found_length, has_path_of, far_apart, Chosen, Existence};
 ghost use Rattle.dubins.specs.HandLegs.{HandLegs};
 ghost use Rattle.dubins.specs.Ways.{AreCentres, IsWay, IsTried, path_along, found_by, no_length, Measures};
@@ -46,6 +46,23 @@ impl Case {
     {
         self.starts_right() == self.ends_right()
     }
+}
+
+// The same of a case's number, 1 to 4 in the order above; any other number goes by the same rule.
+#[tactic(auto, using(crate::proofs::SideLaws::sides), unfolding(crate::specs::Cases::right_at_start))]
+pub fn starts_right(case: u8) -> bool
+    ensures value { result ≡ right_at_start case }
+    ensures sides { SidesByNumber }
+{
+    case <= 2
+}
+
+#[tactic(auto, using(crate::proofs::SideLaws::sides), unfolding(crate::specs::Cases::right_at_end))]
+pub fn ends_right(case: u8) -> bool
+    ensures value { result ≡ right_at_end case }
+    ensures sides { SidesByNumber }
+{
+    case % 2 == 1
 }
 
 // The ends of a leg: its points, the courses to leave and to arrive on, the radius of the circles.

@@ -130,12 +130,11 @@ fn put_lines(plan: Plan, from: usize, buffer: &mut [u8]) -> usize
     requires { (plan.head.count ≤ most_points) × (from + 108 * plan.head.count ≤ length buffer.old) }
     ensures { Wrote from (lines_to plan plan.head.count) buffer.old buffer.new result }
 {
-    let head = plan.head;
+    let lent = plan.lent();
     let mut at = from;
-    for i in 0..head.count {
-        let point = plan::point_at(&plan.norths, &plan.easts, &plan.downs, i);
+    for i in 0..plan.head.count {
         let course = course_at(&plan.courses, i);
-        at = put_line(head.mode, i + 1, point, course, at, buffer);
+        at = put_line(plan.head.mode, i + 1, lent.point_at(i), course, at, buffer);
     }
     at
 }

@@ -1,5 +1,8 @@
 -- `put_lines` writes the line of each point behind the one before it. Assumes nothing.
+use mathlib.Core.Path.{ap, ◌∙◌}
 use Rattle.std.proofs.Common.{rules}
+use Rattle.plan.specs.declared.Plan.{Plan}
+use Rattle.plan.specs.Places.{plan_point}
 use Rattle.report.proofs.ListingLaws.{starts, goes_on}
 use Rattle.report.proofs.put_lines.Goals as goal
 
@@ -10,4 +13,4 @@ loop-i-init c =
 pub loop-i-preserved : goal.loop-i-preserved
 loop-i-preserved c =
     goes_on c.args.plan c.args.from c.args.buffer.now c.requires.1 _ _ _ c.loop-i.invariant _ _ c.loop-i-test.true (search rules)
-    c.point_at-point.ensures c.course_at-course.ensures c.put_line-at.ensures
+    (c.point_at.ensures ∙ ap (λ (p : Plan). plan_point p c.loop-i.i) c.lent-lent.ensures) c.course_at-course.ensures c.put_line-at.ensures
