@@ -1,19 +1,25 @@
--- The check by its tests: what it answers where 14, the mode or the number of points refuses it, and what by the strips. Assumes nothing.
-use mathlib.Core.Path.{◌≡◌, sym, ap, ◌∙◌}
-use mathlib.Core.Bool.{true, false}
+-- The check by its tests: what it answers where 14, the mode or the number of points refuses it, and what by the strips; and
+-- that an answer of functions says all its numbers. Assumes nothing.
+use mathlib.Core.Path.{◌≡◌, refl, ap, ◌∙◌}
+use mathlib.Core.Bool.{Bool, true, false}
 use Prim.Native.Nat.{ℕ}
+use native.Mathlib.Omega.{arith}
+use borrow.Author.Tests.{ne_eqb}
+use Rattle.std.proofs.Common.{Result, Ok, Err}
+use Rattle.std.specs.Result.{is_ok}
+use Rattle.conditions.specs.Choose.{choose}
+use Rattle.conditions.proofs.Bools.{clash}
 use Rattle.conditions.proofs.ChooseLaws.{choose-true, choose-false}
 use Rattle.refusals.specs.declared.Refusal.{Refusal}
 use Rattle.refusals.specs.Numbers.{no_state, not_strips}
-use Rattle.refusals.specs.Outcome.{Outcome, good, refused, refusal_of}
-use Rattle.refusals.specs.Sweep.{Done, done}
-use Rattle.refusals.proofs.SweepLaws.{sweep-done}
-use Rattle.plane.specs.declared.Point.{Point}
+use Rattle.refusals.specs.Outcome.{Outcome, good, refused}
+use Rattle.refusals.specs.Sweep.{Done, answer_of}
 use Rattle.plan.specs.Places.{plan_point, plan_course}
 use Rattle.manager.specs.declared.State.{State}
 use Rattle.manager.specs.State.{valid_of}
+use Rattle.strips.specs.declared.Fault.{Fault}
 use Rattle.strips.specs.Strips.{strips_in}
-use Rattle.strips.specs.Check.{fault_of, refused_check, paired_of, fault_check, plan_check, check_of}
+use Rattle.strips.specs.Check.{Checked, fault_of, refused_check, paired_of, fault_check, plan_check, check_of, answered, numbered}
 
 module _ (s : State) where
   pub check-unsound : valid_of s ≡ false → check_of s ≡ refused_check no_state 0 0
@@ -29,21 +35,51 @@ module _ (s : State) where
   unfolding check_of plan_check
   check-paired v p = choose-true _ _ _ v ∙ choose-true _ _ _ p
 
--- ---- by what the strips have found
-pub fault-clean : (at : ℕ → Point) (course : ℕ → ℕ) (n : ℕ) → (refusal_of (fault_of at course n)).number ≡ 0 → fault_of at course n ≡ good done
-unfolding fault_of
-fault-clean at course n h = sweep-done _ _ _ h
+-- ---- by what the strips have found, as the sweep of them answers it
+abbrev pub refused_with : Fault → Result ℕ Fault
+refused_with f = Err f
 
-module _ (at : ℕ → Point) (course : ℕ → ℕ) (n : ℕ) {r : Refusal} (e : r ≡ refusal_of (fault_of at course n)) where
-  pub fault-none : r.number ≡ 0 → fault_check n (fault_of at course n) ≡ record { refusal = 0; place = 0; rule = 0; strips = strips_in n }
-  unfolding fault_check
-  fault-none z = rw (fault-clean at course n (sym (ap (λ (x : Refusal). x.number) e) ∙ z))
+abbrev first_of : Result Unit Refusal → Refusal
+first_of (Ok u) = record { number = 0; place = 0 }
+first_of (Err r) = r
 
-found : (n : ℕ) (o : Outcome Done) {r : Refusal} → r ≡ refusal_of o → (r.number ≡ 0 → ⊥) → fault_check n o ≡ refused_check not_strips r.place r.number
-unfolding refusal_of fault_check
-found n (good d) e h = absurd (h (ap (λ (x : Refusal). x.number) e))
-found n (refused rule strip) e h = sym (ap (λ (x : Refusal). refused_check not_strips x.place x.number) e)
+abbrev pub broken_by : Refusal → Fault
+broken_by r = record { refusal = not_strips; place = r.place; rule = r.number }
 
-pub fault-found : (at : ℕ → Point) (course : ℕ → ℕ) (n : ℕ) {r : Refusal} → r ≡ refusal_of (fault_of at course n) → (r.number ≡ 0 → ⊥)
-    → fault_check n (fault_of at course n) ≡ refused_check not_strips r.place r.number
-fault-found at course n e h = found n (fault_of at course n) e h
+pub fault-none : (n : ℕ) (o : Outcome Done) → is_ok (answer_of o) ≡ true → Ok (strips_in n) ≡ answered (fault_check n o)
+unfolding answer_of fault_check answered choose
+fault-none n (good d) h = refl
+fault-none n (refused rule strip) h = clash false h refl
+
+pub fault-found : (n : ℕ) (o : Outcome Done) {r : Refusal} → Err r ≡ answer_of o → refused_with (broken_by r) ≡ answered (fault_check n o)
+unfolding answer_of fault_check answered choose
+fault-found n (good d) e = clash false (ap is_ok e) refl
+fault-found n (refused rule strip) e = ap (λ (r : Refusal). refused_with (broken_by r)) (ap first_of e)
+
+-- ---- an answer says all numbers of the check
+abbrev Kept : Checked → Type 0
+Kept c = numbered (answered c) ≡ c
+
+kept-either : (b : Bool) (c d : Checked) → Kept c → Kept d → Kept (choose b c d)
+unfolding choose
+kept-either true c d h k = h
+kept-either false c d h k = k
+
+kept-found : (n : ℕ) (o : Outcome Done) → Kept (fault_check n o)
+unfolding fault_check answered choose
+kept-found n (good d) = refl
+kept-found n (refused rule strip) = refl
+
+kept-refused : (number place rule : ℕ) → (number ≡ 0 → ⊥) → Kept (refused_check number place rule)
+unfolding answered choose
+kept-refused number place rule h = rw (ne_eqb number 0 h)
+
+kept : (s : State) → Kept (check_of s)
+unfolding check_of plan_check
+kept s =
+    let n : not_strips ≡ 0 → ⊥ = λ e. omega (arith, e) in
+    let m : no_state ≡ 0 → ⊥ = λ e. omega (arith, e) in
+    kept-either _ _ _ (kept-either _ _ _ (kept-found _ _) (kept-refused not_strips 0 0 n)) (kept-refused no_state 0 0 m)
+
+pub told : (s : State) {r : Result ℕ Fault} → r ≡ answered (check_of s) → numbered r ≡ check_of s
+told s e = ap numbered e ∙ kept s

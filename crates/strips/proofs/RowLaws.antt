@@ -3,19 +3,20 @@ use mathlib.Core.Path.{◌≡◌, ap}
 use mathlib.Core.Bool.{true}
 use Prim.Native.Nat.{ℕ, ◌≤◌, ◌<◌}
 use native.Mathlib.Omega.{arith}
+use lib.Dec.{ltb}
+use borrow.Author.Tests.{ltb-true, ltb-false}
 use Rattle.conditions.proofs.Bools.{by_bool}
 use Rattle.conditions.proofs.ChooseLaws.{choose-true, choose-false}
 use Rattle.conditions.proofs.BetweenLaws.{between-test, between-under, between-over}
 use Rattle.refusals.specs.Outcome.{Outcome, good, refused}
 use Rattle.refusals.specs.Sweep.{Done}
 use Rattle.plan.specs.Places.{plan_point, plan_course}
-use Rattle.plan.specs.Stands.{Long}
+use Rattle.plan.specs.Long.{Long}
 use Rattle.manager.specs.declared.State.{State}
 use Rattle.manager.specs.State.{valid_of}
 use Rattle.manager.proofs.StateLaws.{valid-means}
-use Rattle.strips.specs.declared.Checked.{Checked}
 use Rattle.strips.specs.Strips.{strips_in}
-use Rattle.strips.specs.Check.{paired_of, fault_check, check_of, strip_of, no_strip, strip_row, StripThere}
+use Rattle.strips.specs.Check.{Checked, paired_of, fault_check, check_of, strip_of, no_strip, strip_row, StripThere}
 use Rattle.strips.proofs.CheckLaws.{check-unsound, check-unpaired, check-paired}
 use Rattle.strips.proofs.ThereLaws.{strips-there}
 
@@ -42,7 +43,7 @@ module _ (s : State) where
 
   module _ {r : Checked} {j : ℕ} where
     pub row-there : Long s.plan.norths s.plan.easts s.plan.downs s.plan.courses → r ≡ check_of s → 1 ≤ j → j ≤ r.strips
-        → StripThere s.plan.norths s.plan.easts s.plan.downs s.plan.courses j
+        → StripThere s.plan j
     row-there l e a b =
         let m = ap (λ (x : Checked). x.strips) e in
         let c = counts (omega (arith, a, b, m)) in
@@ -59,3 +60,6 @@ module _ (s : State) where
   pub row-none : (j : ℕ) → j < 1 → strip_row s j ≡ no_strip
   unfolding strip_row
   row-none j a = choose-false _ _ _ (between-under _ _ _ a)
+
+  pub row-refused : (j : ℕ) {r : Checked} → r ≡ check_of s → r.strips ≡ 0 → strip_row s j ≡ no_strip
+  row-refused j e z = by_bool (ltb j 1) (λ t. row-none j (ltb-true j 1 t)) (λ t. row-past e (omega (arith, z, ltb-false j 1 t)))

@@ -1,20 +1,16 @@
 -- The first rule that a strip breaks, by what is true of its courses, and what the number says of the rules. Assumes nothing.
-use mathlib.Core.Path.{◌≡◌, sym, ap, ◌∙◌, subst}
+use mathlib.Core.Path.{◌≡◌, ap, ◌∙◌}
 use mathlib.Core.Bool.{true, false}
-use mathlib.Core.List.{List}
 use Prim.Native.Nat.{ℕ, ◌+◌, ◌-◌, ◌≤◌, ◌<◌}
 use native.Mathlib.Omega.{arith}
 use lib.Dec.{eqb, leb}
-use lib.IntN.{ℤ}
 use borrow.Author.Tests.{eqb-true, eqb-false, eq-eqb, ne_eqb, leb-true, leb-false, le-leb, lt-leb}
 use Rattle.conditions.specs.Choose.{choose}
 use Rattle.conditions.proofs.Bools.{by_bool}
 use Rattle.course.specs.Bearing.{bearing_of}
 use Rattle.plane.specs.declared.Point.{Point}
-use Rattle.plane.specs.Area.{InArea}
-use Rattle.plan.specs.Places.{place_at, course_at}
-use Rattle.plan.specs.Stands.{Placed, Aiming}
-use Rattle.plan.proofs.PlaceLaws.{area-at}
+use Rattle.plan.specs.declared.Plan.{Plan}
+use Rattle.plan.specs.Places.{plan_course}
 use Rattle.strips.specs.Strips.{first_place, last_place, strip_leg, Opposed}
 use Rattle.strips.specs.Check.{opposed_of, rule_broken}
 
@@ -96,11 +92,5 @@ module _ (at : ℕ → Point) (course : ℕ → ℕ) (j : ℕ) where
       (λ e. breaks1 (number-one (eqb-false leave arrive e)) (eqb-false leave arrive e))
 
 -- ---- what was read at a place that has another name
-pub area-there : {ns es ds : List ℤ} {i k : ℕ} {p : Point} → p ≡ place_at ns es ds i → i ≡ k → Placed ns es ds k → InArea p
-area-there {ns} {es} {ds} e s h = area-at (e ∙ ap (place_at ns es ds) s) h
-
-pub course-there : {cs : List ℤ} {i k χ : ℕ} → Aiming cs k → χ ≡ course_at cs i → i ≡ k → χ ≡ course_at cs k
-course-there {cs} h e s = e ∙ ap (course_at cs) s
-
-pub aiming-there : {cs : List ℤ} {i k : ℕ} → i ≡ k → Aiming cs k → Aiming cs i
-aiming-there {cs} s h = subst (Aiming cs) (sym s) h
+pub course-there : (p : Plan) {i k χ : ℕ} → χ ≡ plan_course p i → i ≡ k → χ ≡ plan_course p k
+course-there p e s = e ∙ ap (plan_course p) s

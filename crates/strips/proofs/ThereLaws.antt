@@ -7,7 +7,8 @@ use borrow.Author.Tests.{eqb-true}
 use Rattle.conditions.proofs.Bools.{clash, both_first, both-second}
 use Rattle.plan.specs.declared.Mode.{Mode}
 use Rattle.plan.specs.declared.Mode.TheVariants.{Lines, Fillets, Dubins}
-use Rattle.plan.specs.Stands.{ByMode, Long}
+use Rattle.plan.specs.Long.{Long}
+use Rattle.plan.specs.Stands.{ByMode}
 use Rattle.plan.proofs.StandLaws.{placed-of, aiming_of}
 use Rattle.manager.specs.declared.State.{State}
 use Rattle.manager.specs.State.{Valid}
@@ -30,8 +31,7 @@ module _ (m : Mode) (n : ℕ) (h : paired_of m n ≡ true) where
   paired-even = eqb-true (n % 2) 0 (both-second _ _ h)
 
 module _ (s : State) (v : Valid s) (l : Long s.plan.norths s.plan.easts s.plan.downs s.plan.courses) where
-  pub strips-there : paired_of s.plan.head.mode s.plan.head.count ≡ true
-      → StripsThere s.plan.norths s.plan.easts s.plan.downs s.plan.courses s.plan.head.count
+  pub strips-there : paired_of s.plan.head.mode s.plan.head.count ≡ true → StripsThere s.plan
   strips-there p j a b =
       let m = v.stands.most in
       let d : ByMode Dubins s.plan = subst (λ (x : Mode). ByMode x s.plan) (paired-mode _ _ p) v.stands.mode in

@@ -18,9 +18,8 @@ use Rattle.plan.specs.declared.Plan.{Plan}
 use Rattle.plan.specs.Places.{plan_point, plan_course}
 use Rattle.manager.specs.declared.State.{State}
 use Rattle.manager.specs.State.{valid_of}
-use Rattle.strips.specs.declared.Checked.{Checked}
 use Rattle.strips.specs.Strips.{first_place, last_place, strips_in, strip_leg, Opposed, Keeps, Paired, StripPlan, FirstFault}
-use Rattle.strips.specs.Check.{rule_broken, rule_at, fault_of, refused_check, is_dubins, paired_of, fault_check, check_of, Tied, OneAnswer}
+use Rattle.strips.specs.Check.{Checked, rule_broken, rule_at, fault_of, refused_check, is_dubins, paired_of, fault_check, check_of, Tied, OneAnswer}
 use Rattle.strips.proofs.RuleLaws.{Judged, breaks1, breaks2, breaks3, breaks0, judged}
 use Rattle.strips.proofs.CheckLaws.{check-unsound, check-unpaired, check-paired}
 use Rattle.strips.proofs.ThereLaws.{paired-mode, paired-even}

@@ -1,6 +1,6 @@
 -- Clauses 6.6, 7.18, 8.3, 15.1, 20.4 to 20.6: the check of a state for strips and the row of a strip, as they are worked out, and what the check
 -- owes the definition of a strip plan. Assumes nothing.
-use Rattle.std.specs.Prelude.{◌≡◌, Bool, true, false, List, ℕ, ◌+◌, ◌-◌, ◌%◌, ◌≤◌, eqb, leb, ℤ, pos, ◌-ℤ◌}
+use Rattle.std.specs.Prelude.{◌≡◌, Bool, true, false, ℕ, ◌+◌, ◌-◌, ◌%◌, ◌≤◌, eqb, leb, Result, Ok, Err, pos, ◌-ℤ◌}
 use Rattle.conditions.specs.Choose.{choose}
 use Rattle.conditions.specs.Both.{both}
 use Rattle.conditions.specs.Between.{between}
@@ -16,10 +16,10 @@ use Rattle.plan.specs.declared.Mode.TheVariants.{Lines, Fillets, Dubins}
 use Rattle.plan.specs.declared.Plan.{Plan}
 use Rattle.plan.specs.Limits.{most_points}
 use Rattle.plan.specs.Places.{plan_point, plan_course}
-use Rattle.plan.specs.Stands.{Placed, Aiming}
+use Rattle.plan.specs.Lent.{PointPlaced, CourseThere}
 use Rattle.manager.specs.declared.State.{State}
 use Rattle.manager.specs.State.{valid_of}
-use Rattle.strips.specs.declared.Checked.{Checked}
+use Rattle.strips.specs.declared.Fault.{Fault}
 use Rattle.strips.specs.declared.Strip.{Strip}
 use Rattle.strips.specs.Strips.{first_place, last_place, strips_in, strip_leg, Paired, StripPlan, FirstFault}
 
@@ -42,7 +42,13 @@ rule_at at course i = rule_broken at course (i + 1)
 unfoldable pub fault_of : (ℕ → Point) → (ℕ → ℕ) → ℕ → Outcome Done
 fault_of at course n = sweep (rule_at at course) (strips_in n - 0) 0
 
--- ---- 20.5, 7.18: the answer
+-- ---- 20.5, 7.18: the answer: a refusal with a place and a rule, or how many strips there are; what is not said is 0
+pub record Checked : Type 0 where
+  pub refusal : ℕ
+  pub place : ℕ
+  pub rule : ℕ
+  pub strips : ℕ
+
 abbrev pub refused_check : ℕ → ℕ → ℕ → Checked
 refused_check number place rule = record { refusal = number; place = place; rule = rule; strips = 0 }
 
@@ -66,6 +72,14 @@ plan_check p =
 -- 20.5: 14 comes first
 unfoldable pub check_of : State → Checked
 check_of s = choose (valid_of s) (plan_check s.plan) (refused_check no_state 0 0)
+
+-- as functions answer it, and the numbers of such an answer
+unfoldable pub answered : Checked → Result ℕ Fault
+answered c = choose (eqb c.refusal 0) (Ok c.strips) (Err (record { refusal = c.refusal; place = c.place; rule = c.rule }))
+
+abbrev pub numbered : Result ℕ Fault → Checked
+numbered (Ok strips) = record { refusal = 0; place = 0; rule = 0; strips = strips }
+numbered (Err fault) = refused_check fault.refusal fault.place fault.rule
 
 -- ---- 20.6: the row of a strip, and zeros where there is none
 abbrev pub strip_of : (ℕ → Point) → (ℕ → ℕ) → ℕ → Strip
@@ -91,17 +105,17 @@ pub record Tied (s : State) (r : Checked) : Type 0 where
 abbrev pub OneAnswer : Type 0
 OneAnswer = (s : State) (r q : Checked) → Tied s r → Tied s q → r ≡ q
 
--- ---- what the functions ask of lent numbers: the places of strip j are there, its points lie in the area, and its courses are courses, as is that
--- of the strip before
-pub record StripThere (norths easts downs courses : List ℤ) (j : ℕ) : Type 0 where
+-- ---- what the functions ask of a plan: the places of strip j are there, its points lie in the area, and its courses are courses, as is that of the
+-- strip before
+pub record StripThere (p : Plan) (j : ℕ) : Type 0 where
   pub least : 1 ≤ j
   pub most : j ≤ most_points
-  pub first : Placed norths easts downs (first_place j)
-  pub last : Placed norths easts downs (last_place j)
-  pub leave : Aiming courses (first_place j)
-  pub arrive : Aiming courses (last_place j)
-  pub before : 2 ≤ j → Aiming courses (first_place (j - 1))
+  pub first : PointPlaced p (first_place j)
+  pub last : PointPlaced p (last_place j)
+  pub leave : CourseThere p (first_place j)
+  pub arrive : CourseThere p (last_place j)
+  pub before : 2 ≤ j → CourseThere p (first_place (j - 1))
 
--- so of each strip of n points; for proofs alone
-abbrev pub StripsThere : List ℤ → List ℤ → List ℤ → List ℤ → ℕ → Type 0
-StripsThere norths easts downs courses n = (j : ℕ) → 1 ≤ j → j ≤ strips_in n → StripThere norths easts downs courses j
+-- so of each strip; for proofs alone
+abbrev pub StripsThere : Plan → Type 0
+StripsThere p = (j : ℕ) → 1 ≤ j → j ≤ strips_in p.head.count → StripThere p j

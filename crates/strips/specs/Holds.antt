@@ -7,9 +7,8 @@ use Rattle.plane.specs.Samples.{point, ground}
 use Rattle.plan.specs.Loaded.{plan_of}
 use Rattle.plan.specs.Places.{points_at, courses_at}
 use Rattle.manager.specs.State.{empty_state, start_of}
-use Rattle.strips.specs.declared.Checked.{Checked}
 use Rattle.strips.specs.declared.Strip.{Strip}
-use Rattle.strips.specs.Check.{plan_check, check_of, strip_of, strip_row}
+use Rattle.strips.specs.Check.{Checked, plan_check, check_of, strip_of, strip_row}
 
 -- ---- what an example says
 pub data StripExample : Type 0 where

@@ -1,16 +1,24 @@
--- `check` lends the numbers of a state to `check_from`. Assumes nothing.
-use mathlib.Core.Path.{◌≡◌, sym, subst}
+-- `check` lends the plan of a state to `check_from`. Assumes nothing.
+use mathlib.Core.Path.{◌≡◌, sym, ap, ◌∙◌, subst}
+use Prim.Native.Nat.{ℕ}
+use Rattle.std.proofs.Common.{Result}
+use Rattle.plan.specs.declared.Plan.{Plan}
 use Rattle.manager.specs.declared.State.{State}
-use Rattle.strips.specs.declared.Checked.{Checked}
-use Rattle.strips.specs.Check.{check_of, Tied, OneAnswer}
+use Rattle.manager.specs.State.{state_of}
+use Rattle.strips.specs.declared.Fault.{Fault}
+use Rattle.strips.specs.Check.{check_of, answered, numbered, Tied, OneAnswer}
 use Rattle.strips.specs.Holds.{StripsHold}
 use Rattle.strips.proofs.Anchors.{strips-hold}
+use Rattle.strips.proofs.CheckLaws.{told}
 use Rattle.strips.proofs.TiedLaws.{tied, one_answer}
 use Rattle.strips.proofs.check.Goals as goal
 
 -- an equation, and with it what the check owes
-promise : (s : State) {r : Checked} → r ≡ check_of s → (r ≡ check_of s) × (Tied s r × (OneAnswer × StripsHold))
-promise s e = (e, (subst (Tied s) (sym e) (tied s), (one_answer, strips-hold)))
+promise : (s : State) {r : Result ℕ Fault} → r ≡ answered (check_of s)
+    → (r ≡ answered (check_of s)) × (Tied s (numbered r) × (OneAnswer × StripsHold))
+promise s e = (e, (subst (Tied s) (sym (told s e)) (tied s), (one_answer, strips-hold)))
 
 pub returns : goal.returns
-returns c = promise _ c.check_from.ensures
+returns c =
+    let s = c.args.state in
+    promise s (c.check_from.ensures ∙ ap (λ (p : Plan). answered (check_of (state_of p s.progress))) c.lent.ensures)

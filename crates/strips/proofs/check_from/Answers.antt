@@ -1,29 +1,36 @@
 -- `check_from` asks 14, then the mode and the number of points, then the strips. Assumes nothing.
-use mathlib.Core.Path.{sym, ◌∙◌}
-use Rattle.strips.proofs.CheckLaws.{check-unsound, check-unpaired, check-paired, fault-none, fault-found}
+use mathlib.Core.Path.{sym, ap, ◌∙◌}
+use Rattle.std.specs.Result.{is_ok}
+use Rattle.conditions.specs.Choose.{choose}
+use Rattle.plan.specs.Lent.{lent_plan}
+use Rattle.manager.specs.State.{state_of}
+use Rattle.strips.specs.Check.{answered}
+use Rattle.strips.proofs.CheckLaws.{check-unsound, check-unpaired, check-paired, refused_with, fault-none, fault-found}
 use Rattle.strips.proofs.ThereLaws.{strips-there}
 use Rattle.strips.proofs.check_from.Goals as goal
 
 pub returns-then-not-valid : goal.returns-then-not-valid
+unfolding answered choose
 returns-then-not-valid c =
-    c.refuse.ensures ∙ sym (check-unsound _ (sym c.valid.ensures.0 ∙ c.if-not-valid.true))
+    ap refused_with c.at_once.ensures ∙ sym (ap answered (check-unsound _ (sym c.valid.ensures.0 ∙ c.if-not-valid.true)))
 
 pub returns-then-not-paired : goal.returns-then-not-paired
+unfolding answered choose
 returns-then-not-paired c =
-    c.refuse-then-not-paired.ensures
-    ∙ sym (check-unpaired _ (sym c.valid.ensures.0 ∙ c.if-not-valid.false) (sym c.paired.ensures ∙ c.if-not-paired.true))
+    ap refused_with c.at_once-then-not-paired.ensures
+    ∙ sym (ap answered (check-unpaired _ (sym c.valid.ensures.0 ∙ c.if-not-valid.false) (sym c.paired.ensures ∙ c.if-not-paired.true)))
 
-pub first_fault-fault-requires : goal.first_fault-fault-requires
-first_fault-fault-requires c =
-    strips-there _ (c.valid.ensures.1 (c.if-not-valid.false)) c.requires (sym c.paired.ensures ∙ c.if-not-paired.false)
+pub first_fault-requires : goal.first_fault-requires
+first_fault-requires c =
+    let s = state_of (lent_plan c.args.plan.now) c.args.progress in
+    strips-there s (c.valid.ensures.1 (c.if-not-valid.false)) c.args.plan.now.long (sym c.paired.ensures ∙ c.if-not-paired.false)
 
-pub returns-then-fault-eq0 : goal.returns-then-fault-eq0
-returns-then-fault-eq0 c =
-    sym (check-paired _ (sym c.valid.ensures.0 ∙ c.if-not-valid.false) (sym c.paired.ensures ∙ c.if-not-paired.false)
-    ∙ fault-none _ _ _ c.first_fault-fault.ensures c.if-fault-eq0.true)
+pub returns-in-Ok : goal.returns-in-Ok
+returns-in-Ok c =
+    fault-none _ _ (sym (ap is_ok c.in-Ok.ensures))
+    ∙ sym (ap answered (check-paired _ (sym c.valid.ensures.0 ∙ c.if-not-valid.false) (sym c.paired.ensures ∙ c.if-not-paired.false)))
 
-pub returns : goal.returns
-returns c =
-    c.refuse-2.ensures
-    ∙ sym (check-paired _ (sym c.valid.ensures.0 ∙ c.if-not-valid.false) (sym c.paired.ensures ∙ c.if-not-paired.false)
-    ∙ fault-found _ _ _ c.first_fault-fault.ensures c.if-fault-eq0.false)
+pub returns-in-Err : goal.returns-in-Err
+returns-in-Err c =
+    fault-found _ _ c.in-Err.ensures
+    ∙ sym (ap answered (check-paired _ (sym c.valid.ensures.0 ∙ c.if-not-valid.false) (sym c.paired.ensures ∙ c.if-not-paired.false)))

@@ -1,82 +1,72 @@
 -- `rule_broken` asks the three rules of a strip in their order. Assumes nothing.
 use mathlib.Core.Path.{◌≡◌, sym, ap, ◌∙◌}
-use Prim.Native.Nat.{◌-◌}
+use mathlib.Core.Bool.{Bool}
+use Prim.Native.Nat.{ℕ, ◌-◌}
 use Rattle.course.specs.Bearing.{bearing_of}
-use Rattle.plan.specs.Places.{place_at, course_at}
-use Rattle.plan.proofs.PlaceLaws.{course-low}
+use Rattle.refusals.specs.Sweep.{noted}
+use Rattle.plan.specs.declared.Plan.{Plan}
+use Rattle.plan.specs.Places.{plan_point, plan_course}
+use Rattle.plan.specs.Lent.{lent_plan}
 use Rattle.strips.specs.Strips.{first_place, last_place, strip_leg}
 use Rattle.strips.specs.Check.{opposed_of}
-use Rattle.strips.proofs.RuleLaws.{behind, course-there, aiming-there, number-one, number-two, number-three, number-first, number-later}
+use Rattle.strips.proofs.RuleLaws.{behind, course-there, number-one, number-two, number-three, number-first, number-later}
 use Rattle.strips.proofs.rule_broken.Goals as goal
-use Rattle.strips.proofs.rule_broken.Goals.{After-opposed, Else-course-bearing}
+use Rattle.strips.proofs.rule_broken.Goals.{Else-course-bearing, else-number-ge2-via-then-number-ge2+else-not-opposed, else-number-ge2-via-else-number-ge2}
 
 -- the strip has one course, which is the bearing of its leg
 straight : (e : Else-course-bearing)
-    → let a = e.args in
-    (course_at a.courses.now (first_place a.number) ≡ course_at a.courses.now (last_place a.number))
-    × (course_at a.courses.now (first_place a.number) ≡ bearing_of (strip_leg (place_at a.norths.now a.easts.now a.downs.now) a.number))
+    → let p = lent_plan e.args.plan.now in
+    let j = e.args.number in
+    (plan_course p (first_place j) ≡ plan_course p (last_place j)) × (plan_course p (first_place j) ≡ bearing_of (strip_leg (plan_point p) j))
 straight e =
+    let p = lent_plan e.args.plan.now in
     let s = e.first_place-i.ensures in
-    let h = e.requires in
-    let l = course-there h.leave e.course_at-course.ensures s in
-    let a = course-there h.arrive e.course_at.ensures (behind h.least s) in
+    let l = course-there p e.course_at-course.ensures s in
+    let a = course-there p e.course_at.ensures (behind e.requires.least s) in
     let v = e.bearing.ensures.value ∙ ap bearing_of e.leg_of.ensures.0 in
     (sym l ∙ e.if-course-course_at.false ∙ a, sym l ∙ e.if-course-bearing.false ∙ v)
 
 -- whether it and that of the strip before are opposed
-compared : (o : After-opposed)
-    → let a = o.args in
-    o.opposed.result ≡ opposed_of (course_at a.courses.now (first_place a.number)) (course_at a.courses.now (first_place (a.number - 1)))
-compared o =
-    let h = o.requires in
-    let l = course-there h.leave o.course_at-course.ensures o.first_place-i.ensures in
-    let p = course-there (h.before o.if-number-ge2.true) o.course_at-before.ensures o.first_place.ensures in
-    o.opposed.ensures ∙ (λ i. opposed_of (l i) (p i))
-
-pub course_at-course-requires : goal.course_at-course-requires
-course_at-course-requires c = aiming-there c.first_place-i.ensures c.requires.leave
-
-pub course_at-requires : goal.course_at-requires
-course_at-requires c =
-    aiming-there (behind c.requires.least c.first_place-i.ensures) c.requires.arrive
+compared : (p : Plan) (j : ℕ) {χ ψ : ℕ} {b : Bool} → χ ≡ plan_course p (first_place j) → ψ ≡ plan_course p (first_place (j - 1)) → b ≡ opposed_of χ ψ
+    → opposed_of (plan_course p (first_place j)) (plan_course p (first_place (j - 1))) ≡ b
+compared p j l k e = sym (e ∙ (λ i. opposed_of (l i) (k i)))
 
 pub returns-then-course-course_at : goal.returns-then-course-course_at
+unfolding noted
 returns-then-course-course_at c =
+    let p = lent_plan c.args.plan.now in
     let s = c.first_place-i.ensures in
-    let h = c.requires in
-    let l = course-there h.leave c.course_at-course.ensures s in
-    let a = course-there h.arrive c.course_at.ensures (behind h.least s) in
-    sym (number-one _ _ _ (λ e. c.if-course-course_at.true (l ∙ e ∙ sym a)))
+    let l = course-there p c.course_at-course.ensures s in
+    let a = course-there p c.course_at.ensures (behind c.requires.least s) in
+    sym (ap noted (number-one _ _ _ (λ e. c.if-course-course_at.true (l ∙ e ∙ sym a))))
 
 pub returns-then-course-bearing : goal.returns-then-course-bearing
+unfolding noted
 returns-then-course-bearing c =
+    let p = lent_plan c.args.plan.now in
     let s = c.first_place-i.ensures in
-    let h = c.requires in
-    let l = course-there h.leave c.course_at-course.ensures s in
-    let a = course-there h.arrive c.course_at.ensures (behind h.least s) in
+    let l = course-there p c.course_at-course.ensures s in
+    let a = course-there p c.course_at.ensures (behind c.requires.least s) in
     let v = c.bearing.ensures.value ∙ ap bearing_of c.leg_of.ensures.0 in
-    sym (number-two _ _ _ (sym l ∙ c.if-course-course_at.false ∙ a) (λ e. c.if-course-bearing.true (l ∙ e ∙ sym v)))
-
-pub course_at-before-requires : goal.course_at-before-requires
-course_at-before-requires c =
-    aiming-there c.first_place.ensures (c.requires.before c.if-number-ge2.true)
-
-pub opposed-requires : goal.opposed-requires
-opposed-requires c =
-    let h = c.requires in (
-      course-low (course-there h.leave c.course_at-course.ensures c.first_place-i.ensures) h.leave,
-      course-low (course-there (h.before c.if-number-ge2.true) c.course_at-before.ensures c.first_place.ensures) (h.before c.if-number-ge2.true),
-    )
+    sym (ap noted (number-two _ _ _ (sym l ∙ c.if-course-course_at.false ∙ a) (λ e. c.if-course-bearing.true (l ∙ e ∙ sym v))))
 
 pub returns-then-not-opposed : goal.returns-then-not-opposed
+unfolding noted
 returns-then-not-opposed c =
+    let p = lent_plan c.args.plan.now in
     let k = straight (goal.at.returns-then-not-opposed c).Else-course-bearing in
-    sym (number-three _ _ _ k.0 k.1 c.if-number-ge2.true (sym (compared (goal.at.returns-then-not-opposed c).After-opposed) ∙ c.if-not-opposed.true))
+    let l = course-there p c.course_at-course.ensures c.first_place-i.ensures in
+    let b = course-there p c.course_at-then-number-ge2.ensures c.first_place.ensures in
+    let o = compared p c.args.number l b c.opposed.ensures ∙ c.if-not-opposed.true in
+    sym (ap noted (number-three _ _ _ k.0 k.1 c.if-number-ge2.true o))
 
-pub returns-else-not-opposed : goal.returns-else-not-opposed
-returns-else-not-opposed c =
-    let k = straight (goal.at.returns-else-not-opposed c).Else-course-bearing in
-    sym (number-later _ _ _ k.0 k.1 c.if-number-ge2.true (sym (compared (goal.at.returns-else-not-opposed c).After-opposed) ∙ c.if-not-opposed.false))
-
-pub returns-else-number-ge2 : goal.returns-else-number-ge2
-returns-else-number-ge2 c = let k = straight (goal.at.returns-else-number-ge2 c).Else-course-bearing in sym (number-first _ _ _ k.0 k.1 c.if-number-ge2.false)
+pub returns : goal.returns
+unfolding noted
+returns c =
+    let p = lent_plan c.args.plan.now in
+    let k = straight (goal.at.returns c).Else-course-bearing in
+    let l = course-there p c.course_at-course.ensures c.first_place-i.ensures in
+    elim c.else-number-ge2.branch [
+      | else-number-ge2-via-then-number-ge2+else-not-opposed w ↦ sym (ap noted (number-later _ _ _ k.0 k.1 w.if-number-ge2.true (compared p c.args.number l (course-there p w.course_at-then-number-ge2.ensures w.first_place.ensures) w.opposed.ensures ∙ w.if-not-opposed.false)))
+      | else-number-ge2-via-else-number-ge2 w ↦ sym (ap noted (number-first _ _ _ k.0 k.1 w.if-number-ge2.false))
+    ]
