@@ -40,9 +40,7 @@ fn level_length(plan: &Lent, i: usize) -> u64
     requires { (1 ≤ i) × (PointPlaced (lent_plan plan.now) (i - 1) × PointPlaced (lent_plan plan.now) i) }
     ensures { (result ≡ level_length (plan_point (lent_plan plan.now)) i) × (result ≤ 2828427) }
 {
-    let a = plan.point_at(i - 1);
-    let b = plan.point_at(i);
-    plane::length(plane::level_leg(a, b))
+    plane::length(plane::level_leg(plan.point_at(i - 1), plan.point_at(i)))
 }
 
 // The corner at the start of the leg that ends at place i, and the leg to it. Nothing is turned at the first point.

@@ -11,9 +11,6 @@ use Rattle.distance.proofs.corner_before.Goals as goal
 pub returns-then-i-lt2 : goal.returns-then-i-lt2
 returns-then-i-lt2 c n h = first-rounded _ n _ _ _ (omega (arith, c.requires.le_i.0, c.if-i-lt2.true))
 
-pub level_leg_at-before-requires : goal.level_leg_at-before-requires
-level_leg_at-before-requires c = let h = c.requires.corner_there c.if-i-lt2.false in (h.before, h.corner)
-
 pub tangent_length-tangent-requires : goal.tangent_length-tangent-requires
 tangent_length-tangent-requires c =
     let at = plan_point (lent_plan c.args.plan.now) in

@@ -32,9 +32,6 @@ returns-then-not-valid c =
     ap refused_with c.failed.ensures.value
     ∙ ap distance_by (sym (distance-refused (state (goal.at.returns-then-not-valid c).Start) (sym c.valid.ensures.0 ∙ c.if-not-valid.true)))
 
-pub overflow_sub-progress : goal.overflow_sub-progress
-overflow_sub-progress c = let w = c.valid.ensures.1 c.if-not-valid.false in omega (arith, w.least)
-
 pub measure-requires : goal.measure-requires
 measure-requires c =
     let t = c.if-not-valid.false in

@@ -15,16 +15,6 @@ begin-carry-requires c = last-placed _ c.requires.sound c.args.plan.now.long
 pub loop-i-init : goal.loop-i-init
 loop-i-init c = ((c.begin-carry.ensures, omega (arith, c.requires.le_place.1)), λ _. sym (written_start _ _))
 
-pub step-carry-requires : goal.step-carry-requires
-step-carry-requires c =
-    record { sound = c.requires.sound; le_i = (omega (arith, c.requires.le_place.0, c.loop-i-test.true), c.loop-i.invariant.0.0) }
-
-pub overflow_cast-table : goal.overflow_cast-table
-overflow_cast-table c = omega (arith, c.step-carry.ensures.most, c.requires.sound.stands.most)
-
-pub overflow_cast-result : goal.overflow_cast-result
-overflow_cast-result c = omega (arith, c.loop-i.invariant.0.0.most, c.requires.sound.stands.most)
-
 pub loop-i-preserved-then-i-table : goal.loop-i-preserved-then-i-table
 loop-i-preserved-then-i-table c =
     let p = lent_plan c.args.plan.now in
