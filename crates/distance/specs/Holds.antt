@@ -3,12 +3,13 @@
 use Rattle.std.specs.Prelude.{◌≡◌, true, List, [], ◌∷◌, ℕ, pos, negsuc, Ok, Err}
 use Rattle.conditions.specs.All.{All}
 use Rattle.refusals.specs.Outcome.{good, refused}
+use Rattle.refusals.specs.Sweep.{passed_of}
 use Rattle.plane.specs.declared.Point.{Point}
 use Rattle.plane.specs.Samples.{point, ground}
 use Rattle.plan.specs.Loaded.{plan_of}
 use Rattle.manager.specs.declared.State.{State}
 use Rattle.manager.specs.State.{empty_state, start_of}
-use Rattle.distance.specs.Table.{entries_of, distances_of, distances_by, table_of, distance_of, distance_by}
+use Rattle.distance.specs.Table.{entries_of, distances_of, table_of, distance_of, distance_by}
 
 -- ---- what an example says: of a radius, points and courses, the entries from 2 on
 pub data TableExample : Type 0 where
@@ -48,8 +49,8 @@ pub record DistancesHold : Type 0 where
   pub room : distances_of started 4 ≡ good (1500 ∷ 1000 ∷ [])
   pub short : distances_of started 3 ≡ refused 16 0
   pub unsound : distances_of empty_state 0 ≡ refused 14 0
-  pub told : distances_by (distances_of started 4) ≡ Ok tt
-  pub full : distances_by (distances_of started 3) ≡ Err (record { number = 16; place = 0 })
+  pub told : passed_of (distances_of started 4) ≡ Ok tt
+  pub full : passed_of (distances_of started 3) ≡ Err (record { number = 16; place = 0 })
   -- entries 0 and 1 and those behind stay
   pub written : table_of (good (1500 ∷ 1000 ∷ [])) (7 ∷ 8 ∷ 9 ∷ 10 ∷ 11 ∷ []) ≡ 7 ∷ 8 ∷ 1500 ∷ 1000 ∷ 11 ∷ []
   pub unwritten : table_of (refused 16 0) (7 ∷ 8 ∷ 9 ∷ []) ≡ 7 ∷ 8 ∷ 9 ∷ []

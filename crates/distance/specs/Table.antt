@@ -24,11 +24,6 @@ entries_of p = entries_from p (p.head.count - 1) 2
 unfoldable pub distances_of : State → ℕ → Outcome (List ℕ)
 distances_of s room = check (valid_of s) no_state (check (leb (s.plan.head.count + 1) room) no_room (good (entries_of s.plan)))
 
--- as the function answers it
-unfoldable pub distances_by : Outcome (List ℕ) → Result Unit Refusal
-distances_by (good entries) = Ok tt
-distances_by (refused number place) = Err (record { number = number; place = place })
-
 -- the lent table afterwards: its entries from 2 on, and no other; refused, none
 unfoldable pub table_of : Outcome (List ℕ) → List ℕ → List ℕ
 table_of (good entries) table = splice 2 entries table

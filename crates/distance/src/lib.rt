@@ -3,6 +3,7 @@
 #![tactic(auto)]
 
 ghost use Rattle.std.specs.Prelude.{◌≡◌, true, ℕ, ◌+◌, ◌-◌, ◌≤◌, ◌<◌, length};
+ghost use Rattle.refusals.specs.Sweep.{passed_of};
 ghost use Rattle.plan.specs.declared.Mode.TheVariants.{Fillets};
 ghost use Rattle.plan.specs.Limits.{most_radius};
 ghost use Rattle.plan.specs.Places.{plan_point};
@@ -10,7 +11,7 @@ ghost use Rattle.plan.specs.Stands.{IsLevelLeg};
 ghost use Rattle.plan.specs.Lent.{lent_plan, PointPlaced};
 ghost use Rattle.manager.specs.State.{state_of};
 ghost use Rattle.distance.specs.Lengths.{level_length, plan_length};
-ghost use Rattle.distance.specs.Table.{distances_of, distances_by, table_of, distance_of, distance_by, Summary, OneTable, AtIndex};
+ghost use Rattle.distance.specs.Table.{distances_of, table_of, distance_of, distance_by, Summary, OneTable, AtIndex};
 ghost use Rattle.distance.specs.Pass.{Sound, CornerThere, Rounded, AddedUp, told_from};
 ghost use Rattle.distance.specs.Kept.{TableKept, ToldAtTheLoad};
 ghost use Rattle.distance.specs.Holds.{DistancesHold};
@@ -145,7 +146,7 @@ fn measure(plan: &Lent, place: usize, table: &mut [u32]) -> u32
 
 // The table of a plan that is lent and how far it is flown. Refused, nothing is written.
 pub fn distances_from(plan: &Lent, progress: Progress, table: &mut [u32]) -> Result<(), Refusal>
-    ensures value { result ≡ distances_by (distances_of (state_of (lent_plan plan.now) progress) (length table.old)) }
+    ensures value { result ≡ passed_of (distances_of (state_of (lent_plan plan.now) progress) (length table.old)) }
     ensures table_after { table.new ≡ table_of (distances_of (state_of (lent_plan plan.now) progress) (length table.old)) table.old }
 {
     if !manager::valid(plan, progress) {
@@ -170,7 +171,7 @@ pub fn distance_from(plan: &Lent, progress: Progress) -> Result<u32, Refusal>
 
 // The distance to go from each index of a state's plan on, as entries 2 to the number of points of a table. Refused, nothing is written.
 pub fn distances(state: State, table: &mut [u32]) -> Result<(), Refusal>
-    ensures value { result ≡ distances_by (distances_of state (length table.old)) }
+    ensures value { result ≡ passed_of (distances_of state (length table.old)) }
     ensures table_after { table.new ≡ table_of (distances_of state (length table.old)) table.old }
     ensures summary { Summary state table.old table.new × OneTable }
     ensures table_kept { TableKept × DistancesHold }
