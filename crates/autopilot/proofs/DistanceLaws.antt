@@ -8,14 +8,15 @@ use lib.IntN.{ℤ}
 use Rattle.conditions.proofs.ChooseLaws.{choose-true, choose-false}
 use Rattle.refusals.specs.Numbers.{misfit, no_state}
 use Rattle.refusals.specs.declared.Refusal.{Refusal}
-use Rattle.refusals.specs.Outcome.{Outcome, good, refused, refusal_of}
+use Rattle.refusals.specs.Outcome.{Outcome, good, refused, check, refusal_of}
 use Rattle.refusals.proofs.OutcomeLaws.{then-good, then-stops}
 use Rattle.buffers.specs.Splice.{over}
 use Rattle.c_state.specs.Stored.{state_at, holds_state, taken_of}
 use Rattle.c_state.proofs.TakenLaws.{held, not-held}
 use Rattle.flight.specs.Run.{run}
 use Rattle.flight.specs.Flight.{last_of}
-use Rattle.distance.specs.declared.Measured.{Measured}
+use Rattle.std.proofs.Common.{Result, Ok, Err}
+use Rattle.refusals.specs.Sweep.{done, passed_of}
 use Rattle.distance.specs.Table.{distances_of, table_of, distance_of, distance_by}
 use Rattle.distance.proofs.KeptLaws.{table_kept}
 use Rattle.autopilot.specs.CallList.{words_in_the_end, fixes_of}
@@ -68,11 +69,42 @@ module _ (b : Bool) (o : Outcome ℕ) (answer : List ℕ) where
   unfolding distance_result distance_answer
   distance-unfit h = (sym (choose-false _ _ _ h), sym (choose-false _ _ _ h))
 
-  pub distance-fit : b ≡ true → (m : Measured) (an : List ℕ) → m ≡ distance_by o → an ≡ over (distance_words m) answer
-      → (m.refusal ≡ distance_result b o) × (an ≡ distance_answer b o answer)
+  pub distance-fit : b ≡ true → (an : List ℕ) → an ≡ over (distance_words o) answer → ((refusal_of o).number ≡ distance_result b o) × (an ≡ distance_answer b o answer)
   unfolding distance_result distance_answer
-  distance-fit h m an e a =
-      (ap (λ (x : Measured). x.refusal) e ∙ sym (choose-true _ _ _ h), a ∙ ap (λ (x : Measured). over (distance_words x) answer) e ∙ sym (choose-true _ _ _ h))
+  distance-fit h an a = (sym (choose-true _ _ _ h), a ∙ sym (choose-true _ _ _ h))
+
+-- words that hold no state are refused
+pub refused-table : (o : Outcome (List ℕ)) (r : Refusal) → r ≡ refusal_of (check false no_state (good done)) → o ≡ refused no_state 0
+    → ◌≡◌ {A = Result (Unit {0}) Refusal} (Err r) (passed_of o)
+unfolding refusal_of check passed_of
+refused-table o r e h = rw (e, h) refl
+
+pub refused-distance : (o : Outcome ℕ) (r : Refusal) → r ≡ refusal_of (check false no_state (good done)) → o ≡ refused no_state 0
+    → ◌≡◌ {A = Result ℕ Refusal} (Err r) (distance_by o)
+unfolding refusal_of check distance_by
+refused-distance o r e h = rw (e, h) refl
+
+-- the refusal that an answer shows, none where it has none
+pub shown-refusal : (o : Outcome (List ℕ)) (r : Refusal) → passed_of o ≡ Err r → refusal_of o ≡ r
+unfolding passed_of refusal_of
+shown-refusal (good a) r h = cc
+shown-refusal (refused number place) r h = cc
+
+pub shown-none : (o : Outcome (List ℕ)) (u : Unit {0}) → passed_of o ≡ Ok u → refusal_of o ≡ record { number = 0; place = 0 }
+unfolding passed_of refusal_of
+shown-none (good a) u h = refl
+shown-none (refused number place) u h = cc
+
+-- which distance an answer is of
+pub left-is : (o : Outcome ℕ) (n : ℕ) → distance_by o ≡ Ok n → o ≡ good n
+unfolding distance_by
+left-is (good m) n h = let k : m ≡ n = cc in ap (λ (x : ℕ). good x) k
+left-is (refused number place) n h = cc
+
+pub none-left : (o : Outcome ℕ) (r : Refusal) → distance_by o ≡ Err r → o ≡ refused r.number r.place
+unfolding distance_by
+none-left (good m) r h = cc
+none-left (refused number place) r h = let k : record { number = number; place = place } ≡ r = cc in ap (λ (x : Refusal). refused x.number x.place) k
 
 -- ---- over a list of calls
 pub tables-stay : TablesStay

@@ -18,7 +18,6 @@ use Rattle.buffers.specs.Splice.{over, splice}
 use Rattle.units.specs.declared.Fix.{Fix}
 use Rattle.guidance.specs.declared.Command.TheVariants.{Nothing}
 use Rattle.plan.specs.declared.Plan.{Plan}
-use Rattle.plan.specs.Places.{seen}
 use Rattle.manager.specs.declared.State.{State}
 use Rattle.manager.specs.declared.Progress.{Progress}
 use Rattle.manager.specs.declared.Decided.{Decided}

@@ -4,14 +4,13 @@ use Rattle.std.specs.Prelude.{◌≡◌, Bool, true, List, [], ◌∷◌, ℕ, �
 use Rattle.conditions.specs.Choose.{choose}
 use Rattle.refusals.specs.Numbers.{misfit}
 use Rattle.refusals.specs.declared.Refusal.{Refusal}
-use Rattle.refusals.specs.Outcome.{Outcome, and_then, refusal_of}
+use Rattle.refusals.specs.Outcome.{Outcome, and_then, refusal_of, good, refused}
 use Rattle.buffers.specs.Splice.{over}
 use Rattle.manager.specs.declared.State.{State}
 use Rattle.manager.specs.State.{valid_of}
 use Rattle.c_answer.specs.Words.{word_of}
 use Rattle.c_state.specs.Stored.{taken_of, pair_fits}
-use Rattle.distance.specs.declared.Measured.{Measured}
-use Rattle.distance.specs.Table.{distances_of, table_of, distance_of, distance_by}
+use Rattle.distance.specs.Table.{distances_of, table_of, distance_of}
 use Rattle.autopilot.specs.Held.{Hold}
 use Rattle.autopilot.specs.CallList.{Call, words_in_the_end}
 
@@ -42,14 +41,15 @@ distances_answer fits o answer = choose fits (over (distances_words (refusal_of 
 abbrev pub distance_fits : List ℤ → List ℕ → Bool
 distance_fits state answer = pair_fits (length state) (length answer) 3
 
-abbrev pub distance_words : Measured → List ℕ
-distance_words m = m.refusal ∷ word_of m.place ∷ m.left ∷ []
+abbrev pub distance_words : Outcome ℕ → List ℕ
+distance_words (good n) = 0 ∷ 0 ∷ n ∷ []
+distance_words (refused number place) = number ∷ word_of place ∷ 0 ∷ []
 
 unfoldable pub distance_result : Bool → Outcome ℕ → ℕ
-distance_result fits o = choose fits (distance_by o).refusal misfit
+distance_result fits o = choose fits (refusal_of o).number misfit
 
 unfoldable pub distance_answer : Bool → Outcome ℕ → List ℕ → List ℕ
-distance_answer fits o answer = choose fits (over (distance_words (distance_by o)) answer) answer
+distance_answer fits o answer = choose fits (over (distance_words o) answer) answer
 
 -- ---- 17.18: from words that hold a state that 14 does not refuse, every list of calls leaves words with the same table
 abbrev pub TablesStay : Type 0

@@ -4,7 +4,7 @@
 
 ghost use Rattle.std.specs.Prelude.{◌≡◌, true, ◌≤◌, length};
 ghost use Rattle.refusals.specs.Numbers.{no_state};
-ghost use Rattle.refusals.specs.Outcome.{refusal_of};
+ghost use Rattle.refusals.specs.Sweep.{passed_of};
 ghost use Rattle.buffers.specs.Splice.{over};
 ghost use Rattle.guidance.specs.declared.Command.TheVariants.{Nothing};
 ghost use Rattle.manager.specs.Step.{stepped_by, step_of};
@@ -20,7 +20,6 @@ ghost use Rattle.autopilot.specs.Example.{CallExample, Separates, Lengths, Dista
 ghost use Rattle.autopilot.specs.Calls.{load_fits, load_result, load_state, load_answer, fix_fits, refused_words, fix_result, fix_state, fix_answer, fix_command, write_fits, write_from, write_result, write_file, write_answer};
 ghost use Rattle.autopilot.specs.Distances.{distances_in, distance_in, distances_fit, distances_result, distances_table, distances_answer, distance_fits, distance_result, distance_answer, TablesStay};
 
-use distance::Measured;
 use guidance::Command;
 use manager::Decided;
 use refusals::Refusal;
@@ -73,7 +72,12 @@ fn decide_at(words: &[i32], serial: u32, fix: Fix) -> Decided
     ensures result_value { stepped_by (plan_at words.now) result ≡ step_of (state_at words.now) serial fix }
     ensures are_words { AreWords serial_place index_place words.now × AreWords index_place norths_place words.now }
 {
-    manager::decide(&c_state::plan_at(words), c_state::progress_at(words), serial, fix)
+    manager::decide(
+        &c_state::plan_at(words),
+        c_state::progress_at(words),
+        serial,
+        fix,
+    )
 }
 
 // The answer of words that hold no state, with their index, phase and finished as they stand.
@@ -139,7 +143,12 @@ fn write_at(words: &[i32], version: u32, file: &mut [u8]) -> Written
     ensures value { result ≡ written_of (write_of (state_at words.now) version (length file.old)) }
     ensures file_after { file.new ≡ buffer_of (write_of (state_at words.now) version (length file.old)) file.old }
 {
-    wpl::write_from(&c_state::plan_at(words), c_state::progress_at(words), version, file)
+    wpl::write_from(
+        &c_state::plan_at(words),
+        c_state::progress_at(words),
+        version,
+        file,
+    )
 }
 
 // Writes the plan of a state as a file of a version. Refused, nothing of the file is written.
@@ -168,18 +177,15 @@ pub fn farnkuppel_write(state: &[i32], version: u32, file: &mut [u8], answer: &m
 }
 
 // The table of distances of the state that words hold. Their blocks are lent as they lie.
-fn distances_at(words: &[i32], table: &mut [u32]) -> Refusal
+fn distances_at(words: &[i32], table: &mut [u32]) -> Result<(), Refusal>
     requires { state_length ≤ length words.now }
-    ensures value { result ≡ refusal_of (distances_in (taken_of words.now) (length table.old)) }
+    ensures value { result ≡ passed_of (distances_in (taken_of words.now) (length table.old)) }
     ensures table_after { table.new ≡ table_of (distances_in (taken_of words.now) (length table.old)) table.old }
 {
-    if c_state::holds_state(words) {
-        return distance::distances_from(&c_state::plan_at(words), c_state::progress_at(words), table);
+    if !c_state::holds_state(words) {
+        return Err(refusals::failed(refusals::NO_STATE));
     }
-    Refusal {
-        number: refusals::NO_STATE,
-        place: 0,
-    }
+    distance::distances_from(&c_state::plan_at(words), c_state::progress_at(words), table)
 }
 
 // The distance to go from each index of a state's plan on. Refused, nothing of the table is written.
@@ -193,25 +199,28 @@ pub fn farnkuppel_distances(state: &[i32], table: &mut [u32], answer: &mut [u32]
     if !c_state::fits(state.len(), answer.len(), DISTANCES_ANSWER) {
         return refusals::MISFIT as u32;
     }
-    let found = distances_at(state, table);
-    let number = found.number as u32;
-    buffers::put(&[number, c_answer::word(found.place)], answer);
-    number
+    match distances_at(state, table) {
+        Ok(()) => {
+            buffers::put(&[0, 0], answer);
+            0
+        }
+        Err(found) => {
+            let number = u32::from(found.number);
+            buffers::put(&[number, c_answer::word(found.place)], answer);
+            number
+        }
+    }
 }
 
 // The distance to go of the state that words hold. Their blocks are lent as they lie.
-fn distance_at(words: &[i32]) -> Measured
+fn distance_at(words: &[i32]) -> Result<u32, Refusal>
     requires { state_length ≤ length words.now }
     ensures { result ≡ distance_by (distance_in (taken_of words.now)) }
 {
     if c_state::holds_state(words) {
         return distance::distance_from(&c_state::plan_at(words), c_state::progress_at(words));
     }
-    Measured {
-        refusal: refusals::NO_STATE,
-        place: 0,
-        left: 0,
-    }
+    Err(refusals::failed(refusals::NO_STATE))
 }
 
 // The distance to go from a state's index on.
@@ -222,8 +231,15 @@ pub fn farnkuppel_distance(state: &[i32], answer: &mut [u32]) -> u32
     if !c_state::fits(state.len(), answer.len(), DISTANCE_ANSWER) {
         return refusals::MISFIT as u32;
     }
-    let found = distance_at(state);
-    let number = found.refusal as u32;
-    buffers::put(&[number, c_answer::word(found.place), found.left], answer);
-    number
+    match distance_at(state) {
+        Ok(left) => {
+            buffers::put(&[0, 0, left], answer);
+            0
+        }
+        Err(found) => {
+            let number = u32::from(found.number);
+            buffers::put(&[number, c_answer::word(found.place), 0], answer);
+            number
+        }
+    }
 }

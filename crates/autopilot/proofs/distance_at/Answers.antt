@@ -3,8 +3,11 @@ use mathlib.Core.Path.{sym, ap, ◌∙◌}
 use Rattle.manager.specs.declared.State.{State}
 use Rattle.distance.specs.Table.{distance_of, distance_by}
 use Rattle.c_state.proofs.TakenLaws.{state-there}
-use Rattle.autopilot.proofs.DistanceLaws.{distance-held, distance-unheld}
+use Rattle.autopilot.proofs.DistanceLaws.{distance-held, distance-unheld, refused-distance}
 use Rattle.autopilot.proofs.distance_at.Goals as goal
+
+pub returns : goal.returns
+returns c = refused-distance _ _ c.failed.ensures.value (distance-unheld _ (sym c.holds_state.ensures.value ∙ c.if-holds_state.false))
 
 pub plan_at-requires : goal.plan_at-requires
 plan_at-requires c = (c.requires, sym c.holds_state.ensures.value ∙ c.if-holds_state.true)
@@ -18,7 +21,3 @@ returns-then-holds_state c =
     let v = state-there ws c.plan_at.ensures.0 c.progress_at.ensures.0 in
     let h = sym c.holds_state.ensures.value ∙ c.if-holds_state.true in
     c.distance_from.ensures ∙ ap (λ (s : State). distance_by (distance_of s)) v ∙ ap distance_by (sym (distance-held ws h))
-
-pub returns : goal.returns
-unfolding distance_by
-returns c = ap distance_by (sym (distance-unheld _ (sym c.holds_state.ensures.value ∙ c.if-holds_state.false)))
