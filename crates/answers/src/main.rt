@@ -11,6 +11,7 @@
 ghost use Rattle.std.specs.Prelude.{◌<◌, length, IfSome};
 
 use console::WriteFailed;
+use text::Text;
 use wpl::Written;
 
 // Where an argument would stand, behind the program's own name.
@@ -65,8 +66,9 @@ fn first(questions: &[u8]) -> Option<(Question<'_>, &[u8])>
 fn show_load(rt: HostRuntime, file: &[u8], reader: u32) -> Result<(), WriteFailed> {
     let loaded = wpl::load(file, reader);
     let mut line = [0u8; LINE_ROOM];
-    let end = report::put_load(loaded.refusal, loaded.place, 0, &mut line);
-    console::write(rt, &line[..end])
+    let mut out = Text::new(0, &mut line);
+    report::put_load(loaded.refusal, loaded.place, &mut out);
+    console::write(rt, out.written())
 }
 
 // No note is as long as the most room; the test is for the prover.
@@ -74,8 +76,9 @@ fn show_note(rt: HostRuntime, file: &[u8], number: u32) -> Result<(), WriteFaile
     let note = wpl::note(file, number as usize);
     let mut line = [0u8; LINE_ROOM];
     if note.len() <= MOST_ROOM {
-        let end = report::put_note(note, 0, &mut line);
-        console::write(rt, &line[..end])
+        let mut out = Text::new(0, &mut line);
+        report::put_note(note, &mut out);
+        console::write(rt, out.written())
     } else {
         Ok(())
     }
@@ -85,8 +88,9 @@ fn show_note(rt: HostRuntime, file: &[u8], number: u32) -> Result<(), WriteFaile
 fn show_written(rt: HostRuntime, written: Written, room: &[u8]) -> Result<(), WriteFailed> {
     let mut line = [0u8; LINE_ROOM];
     if room.len() <= MOST_ROOM {
-        let end = report::put_written(written, room, 0, &mut line);
-        console::write(rt, &line[..end])
+        let mut out = Text::new(0, &mut line);
+        report::put_written(written, room, &mut out);
+        console::write(rt, out.written())
     } else {
         Ok(())
     }

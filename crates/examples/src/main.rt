@@ -19,7 +19,7 @@ use manager::{Answer, Progress, State};
 use plan::{Head, Mode, Plan};
 use plane::Point;
 use records::{u16_at, u32_at};
-use text::float;
+use text::{Text, float};
 use units::Fix;
 
 // The first byte of a block.
@@ -62,20 +62,23 @@ fn write(rt: HostRuntime, text: &[u8]) {
 
 fn write_decimal(rt: HostRuntime, n: u64) {
     let mut digits = [0u8; DIGITS];
-    let end = text::put_decimal(n, 0, &mut digits);
-    write(rt, &digits[..end]);
+    let mut out = Text::new(0, &mut digits);
+    out.decimal(n);
+    write(rt, out.written());
 }
 
 fn write_number(rt: HostRuntime, x: i64) {
     let mut digits = [0u8; DIGITS];
-    let end = text::put_signed(x, 0, &mut digits);
-    write(rt, &digits[..end]);
+    let mut out = Text::new(0, &mut digits);
+    out.signed(x);
+    write(rt, out.written());
 }
 
 fn write_refusal(rt: HostRuntime, number: u8, place: usize) {
     let mut line = [0u8; REFUSAL_ROOM];
-    let end = text::put_refusal(u64::from(number), place as u64, 0, &mut line);
-    write(rt, &line[..end]);
+    let mut out = Text::new(0, &mut line);
+    out.refusal(u64::from(number), place as u64);
+    write(rt, out.written());
 }
 
 fn write_vector(rt: HostRuntime, v: Vector) {
@@ -433,8 +436,9 @@ fn show(rt: HostRuntime, number: u64, answer: Answer) {
     c_answer::put_answer(answer, &mut words);
     c_answer::put_command(answer.command, &mut numbers);
     let mut line = [0u8; report::FIX_ROOM];
-    let end = report::put_fix(number, &words, &numbers, 0, &mut line);
-    write(rt, &line[..end]);
+    let mut out = Text::new(0, &mut line);
+    report::put_fix(number, &words, &numbers, &mut out);
+    write(rt, out.written());
 }
 
 // The state after a fix, whose line is written.

@@ -13,7 +13,7 @@ use std::env::Env;
 use std::fs::File;
 use std::io;
 use std::io::{Error, ErrorKind};
-use text::float;
+use text::{Text, float};
 
 // Where each argument stands, behind the program's own name, and where another one would.
 const READER: usize = 1;
@@ -128,16 +128,18 @@ fn show(rt: HostRuntime, number: u64, answer: &[u32], numbers: &[f32]) -> Result
     requires { (8 ≤ length answer.now) × (6 ≤ length numbers.now) }
 {
     let mut line = [0u8; report::FIX_ROOM];
-    let end = report::put_fix(number, answer, numbers, 0, &mut line);
-    console::write(rt, &line[..end])
+    let mut out = Text::new(0, &mut line);
+    report::put_fix(number, answer, numbers, &mut out);
+    console::write(rt, out.written())
 }
 
 // The line of a plan that is refused.
 fn show_refusal(rt: HostRuntime, refusal: u8, place: usize) {
     let mut line = [0u8; LINE_ROOM];
-    let last = text::put_refusal(refusal as u64, place as u64, 0, &mut line);
-    let end = text::put_byte(b'\n', last, &mut line);
-    let _ = console::write(rt, &line[..end]);
+    let mut out = Text::new(0, &mut line);
+    out.refusal(refusal as u64, place as u64);
+    out.byte(b'\n');
+    let _ = console::write(rt, out.written());
 }
 
 impl Lists {
@@ -227,9 +229,10 @@ fn tell_cut(rt: HostRuntime, name: &[u8], count: usize, flown: u64)
     console::complain(rt, name);
     let mut line = [0u8; LINE_ROOM];
     let number = flown + (count / FIX_BYTES) as u64 + 1;
-    let last = text::put_count(b": fix ", number, 0, &mut line);
-    let end = text::put_text(b" is cut short\n", last, &mut line);
-    console::complain(rt, &line[..end]);
+    let mut out = Text::new(0, &mut line);
+    out.count(b": fix ", number);
+    out.text(b" is cut short\n");
+    console::complain(rt, out.written());
 }
 
 // Reads a chunk and flies it; one that can't be read whole is not flown. The state after it, where another one may follow.

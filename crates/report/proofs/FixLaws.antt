@@ -12,8 +12,9 @@ use borrow.Author.Tests.{eq-eqb, ne_eqb}
 use Rattle.conditions.proofs.ChooseLaws.{choose-true, choose-false}
 use Rattle.text.specs.Ascii.{ascii}
 use Rattle.text.specs.Parts.{count_text, float_text, refusal_text}
-use Rattle.text.specs.Written.{Wrote}
-use Rattle.text.proofs.WrittenLaws.{none, then}
+use Rattle.text.specs.declared.Text.{Text}
+use Rattle.text.specs.Added.{Fits, AtMost, Added}
+use Rattle.text.proofs.AddedLaws.{nothing, joined}
 use Rattle.report.specs.Listing.{space}
 use Rattle.report.specs.Fix.{floats_to, sense_text, command_text, answer_word, guided_text}
 
@@ -23,26 +24,24 @@ unfolding floats_to
 floats-next xs i = rw add-one
 
 -- before float i of n
-pub record Floating (xs : List Float) (from n : ℕ) (old now : List ℕ) (at i : ℕ) : Type 0 where
+pub record Floating (xs : List Float) (n : ℕ) (old now : Text) (i : ℕ) : Type 0 where
   pub inside : i ≤ n
-  pub kept : length now ≡ length old
-  pub done : Wrote from (floats_to xs i) old now at
-  pub short : at ≤ from + 9 * i
+  pub done : Added (floats_to xs i) old now
+  pub short : AtMost (9 * i) old now
 
-module _ (xs : List Float) (from n : ℕ) (old : List ℕ) (room : from + 9 * n ≤ length old) where
-  pub starts : Floating xs from n old old from 0
+module _ (xs : List Float) (n : ℕ) (old : Text) (room : Fits (9 * n) old) where
+  pub starts : Floating xs n old old 0
   unfolding floats_to
-  starts = record { inside = omega arith; kept = refl; done = none from old (omega arith); short = omega arith }
+  starts = record { inside = omega arith; done = nothing old (omega (arith, room)); short = omega arith }
 
-  module _ (now : List ℕ) (at i : ℕ) (u : Floating xs from n old now at i) where
-    pub goes_on : (between new : List ℕ) (mid to : ℕ) → i < n → length new ≡ length now → Wrote at space now between mid
-        → Wrote mid (float_text (get_or xs i nan)) between new to × (to ≡ mid + 8) → Floating xs from n old new to (i + 1)
-    goes_on between new mid to h k v w =
+  module _ (now : Text) (i : ℕ) (u : Floating xs n old now i) where
+    pub goes_on : (between new : Text) → i < n → Added space now between
+        → Added (float_text (get_or xs i nan)) between new × (new.at ≡ between.at + 8) → Floating xs n old new (i + 1)
+    goes_on between new h v w =
         record {
           inside = omega arith;
-          kept = k ∙ u.kept;
-          done = rw (floats-next xs i) (then u.done (then v w.0));
-          short = omega (arith, u.short, v.ends, w.1);
+          done = rw (floats-next xs i) (joined u.done (joined v w.0));
+          short = omega (arith, u.short, v.wrote.ends, w.1);
         }
 
 -- all floats of a front are the first ones of the whole

@@ -1,5 +1,5 @@
 -- The lines of a plan, point by point; a loaded plan has no more points than there is room for; and where a listing ends up. Assumes nothing.
-use mathlib.Core.Path.{◌≡◌, refl, sym, ◌∙◌}
+use mathlib.Core.Path.{◌≡◌, sym, ap, ◌∙◌}
 use mathlib.Core.List.{List, ◌++◌}
 use Prim.Native.Nat.{ℕ, ◌+◌, ◌*◌, ◌≤◌, ◌<◌}
 use native.Mathlib.Numerals.{add-one}
@@ -10,8 +10,10 @@ use Rattle.conditions.proofs.ChooseLaws.{choose-true, choose-false}
 use Rattle.refusals.specs.Outcome.{Outcome, good, refused}
 use Rattle.buffers.proofs.SpliceLaws.{at_front}
 use Rattle.text.specs.Parts.{refusal_text}
+use Rattle.text.specs.declared.Text.{Text}
 use Rattle.text.specs.Written.{Wrote}
-use Rattle.text.proofs.WrittenLaws.{none, then}
+use Rattle.text.specs.Added.{Fits, AtMost, Added}
+use Rattle.text.proofs.AddedLaws.{nothing, joined}
 use Rattle.plane.specs.declared.Point.{Point}
 use Rattle.plan.specs.declared.Plan.{Plan}
 use Rattle.plan.specs.Limits.{most_points}
@@ -29,27 +31,24 @@ unfolding lines_to
 lines_next p i = rw add-one
 
 -- before line i
-pub record Underway (p : Plan) (from : ℕ) (old now : List ℕ) (at i : ℕ) : Type 0 where
+pub record Underway (p : Plan) (old now : Text) (i : ℕ) : Type 0 where
   pub inside : i ≤ p.head.count
-  pub kept : length now ≡ length old
-  pub done : Wrote from (lines_to p i) old now at
-  pub short : at ≤ from + 108 * i
+  pub done : Added (lines_to p i) old now
+  pub short : AtMost (108 * i) old now
 
-module _ (p : Plan) (from : ℕ) (old : List ℕ) (room : from + 108 * p.head.count ≤ length old) where
-  pub starts : Underway p from old old from 0
+module _ (p : Plan) (old : Text) (room : Fits (108 * p.head.count) old) where
+  pub starts : Underway p old old 0
   unfolding lines_to
-  starts = record { inside = omega arith; kept = refl; done = none from old (omega arith); short = omega arith }
+  starts = record { inside = omega arith; done = nothing old (omega (arith, room)); short = omega arith }
 
-  module _ (now : List ℕ) (at i : ℕ) (u : Underway p from old now at i) where
-    pub goes_on : (new : List ℕ) (to : ℕ) → i < p.head.count → length new ≡ length now
-        → {q : Point} {course : ℕ} → q ≡ plan_point p i → course ≡ plan_course p i
-        → Wrote at (line_of p.head.mode (i + 1) q course) now new to × (to ≤ at + 108) → Underway p from old new to (i + 1)
-    goes_on new to h k {q} {course} e f w =
-        let v : Wrote at (line_of p.head.mode (i + 1) (plan_point p i) (plan_course p i)) now new to = rw (← e, ← f) w.0 in
+  module _ (now : Text) (i : ℕ) (u : Underway p old now i) where
+    pub goes_on : (new : Text) → i < p.head.count → {q : Point} {course : ℕ} → q ≡ plan_point p i → course ≡ plan_course p i
+        → Added (line_of p.head.mode (i + 1) q course) now new × AtMost 108 now new → Underway p old new (i + 1)
+    goes_on new h {q} {course} e f w =
+        let v : Added (line_of p.head.mode (i + 1) (plan_point p i) (plan_course p i)) now new = rw (← e, ← f) w.0 in
         record {
           inside = omega arith;
-          kept = k ∙ u.kept;
-          done = rw (lines_next p i) (then u.done v);
+          done = rw (lines_next p i) (joined u.done v);
           short = omega (arith, u.short, w.1);
         }
 
@@ -79,10 +78,12 @@ module _ (room : ℕ) (text old : List ℕ) {Holds : Type 0} (holds : Holds) whe
       let t = lt-leb room (length old) h in
       (sym (choose-false _ _ _ t), (sym (choose-false _ _ _ t), (omega arith, holds)))
 
-  pub whole : {new : List ℕ} {end : ℕ} → room ≤ length old → length new ≡ length old → Wrote 0 text old new end → Listed new end
+  pub whole : (from to : Text) → room ≤ length old → from.at ≡ 0 → from.buffer.now ≡ old → Added text from to → Listed to.buffer.now to.at
   unfolding listed_length listed_in
-  whole h k w =
-      let t = le-leb room (length old) h in (
-        omega (arith, w.ends) ∙ sym (choose-true _ _ _ t),
-        (w.bytes ∙ at_front text old ∙ sym (choose-true _ _ _ t), (omega (arith, k, w.inside), holds)),
+  whole from to h z o w =
+      let t = le-leb room (length old) h in
+      let v : Wrote 0 text old to.buffer.now to.at = rw (z, o) at w.wrote in
+      let k : length to.buffer.now ≡ length old = w.kept ∙ ap length o in (
+        omega (arith, v.ends) ∙ sym (choose-true _ _ _ t),
+        (v.bytes ∙ at_front text old ∙ sym (choose-true _ _ _ t), (omega (arith, k, v.inside), holds)),
       )

@@ -3,7 +3,7 @@
 #![tactic(auto)]
 
 ghost use Rattle.std.specs.Prelude.{◌≡◌, ◌++◌, ◌+◌, ◌*◌, ◌≤◌, ◌<◌, length};
-ghost use Rattle.text.specs.Written.{Wrote};
+ghost use Rattle.text.specs.Added.{Fits, Added, AtMost};
 ghost use Rattle.text.specs.Parts.{count_text, number_text, refusal_text};
 ghost use Rattle.plan.specs.Limits.{most_points};
 ghost use Rattle.plan.specs.Places.{course_at};
@@ -15,6 +15,7 @@ ghost use Rattle.report.specs.Listing.{space, mode_text, title_of, course_text, 
 use c_answer::{CIRCLE_KIND, LINE_KIND};
 use plan::{Head, Mode, Plan};
 use plane::Point;
+use text::Text;
 use wpl::Written;
 
 // Room for the bytes of a file: one more than a file can have. A longer one is refused as its first bytes are (the promise of wpl::load).
@@ -48,56 +49,55 @@ const LINE_NUMBERS: usize = 6;
 
 const CIRCLE_NUMBERS: usize = 4;
 
-// A buffer has the place to write at beside it in all that follows, since put_title, put_fix, put_load, put_note and put_written promise Wrote of both.
-fn put_mode(mode: Mode, at: usize, buffer: &mut [u8]) -> usize
-    requires { at + 7 ≤ length buffer.old }
-    ensures { Wrote at (mode_text mode) buffer.old buffer.new result × (result ≤ at + 7) }
+fn put_mode(mode: Mode, out: &mut Text)
+    requires { Fits 7 out.old }
+    ensures { Added (mode_text mode) out.old out.new × AtMost 7 out.old out.new }
 {
     match mode {
-        Mode::Lines => text::put_text(b"lines", at, buffer),
-        Mode::Fillets => text::put_text(b"fillets", at, buffer),
-        Mode::Dubins => text::put_text(b"dubins", at, buffer),
+        Mode::Lines => out.text(b"lines"),
+        Mode::Fillets => out.text(b"fillets"),
+        Mode::Dubins => out.text(b"dubins"),
     }
 }
 
 // The first line of a listing, without its end.
-pub fn put_title(version: u16, head: Head, buffer: &mut [u8]) -> usize
-    requires { 95 ≤ length buffer.old }
-    ensures { Wrote 0 (title_of version head) buffer.old buffer.new result × (result ≤ 95) }
+pub fn put_title(version: u16, head: Head, out: &mut Text)
+    requires { Fits 95 out.old }
+    ensures { Added (title_of version head) out.old out.new × AtMost 95 out.old out.new }
 {
     let mode = head.mode;
-    let a = text::put_count(b"plan ", head.serial as u64, 0, buffer);
-    let b = text::put_count(b" version ", version as u64, a, buffer);
-    let c = text::put_text(b" mode ", b, buffer);
-    let d = put_mode(mode, c, buffer);
-    text::put_count(b" points ", head.count as u64, d, buffer)
+    out.count(b"plan ", head.serial as u64);
+    out.count(b" version ", version as u64);
+    out.text(b" mode ");
+    put_mode(mode, out);
+    out.count(b" points ", head.count as u64);
 }
 
 // A number of a point.
-fn put_number(x: i32, at: usize, buffer: &mut [u8]) -> usize
-    requires { at + 22 ≤ length buffer.old }
-    ensures { Wrote at (number_text space x) buffer.old buffer.new result × (result ≤ at + 22) }
+fn put_number(x: i32, out: &mut Text)
+    requires { Fits 22 out.old }
+    ensures { Added (number_text space x) out.old out.new × AtMost 22 out.old out.new }
 {
-    text::put_number(b" ", i64::from(x), at, buffer)
+    out.number(b" ", i64::from(x));
 }
 
-fn put_point(point: Point, at: usize, buffer: &mut [u8]) -> usize
-    requires { at + 66 ≤ length buffer.old }
-    ensures { Wrote at (point_text point) buffer.old buffer.new result × (result ≤ at + 66) }
+fn put_point(point: Point, out: &mut Text)
+    requires { Fits 66 out.old }
+    ensures { Added (point_text point) out.old out.new × AtMost 66 out.old out.new }
 {
-    let a = put_number(point.north, at, buffer);
-    let b = put_number(point.east, a, buffer);
-    put_number(point.down, b, buffer)
+    put_number(point.north, out);
+    put_number(point.east, out);
+    put_number(point.down, out);
 }
 
 // The course of a point, or a dash where the plan has no courses.
-fn put_course(mode: Mode, course: u64, at: usize, buffer: &mut [u8]) -> usize
-    requires { at + 21 ≤ length buffer.old }
-    ensures { Wrote at (course_text mode course) buffer.old buffer.new result × (result ≤ at + 21) }
+fn put_course(mode: Mode, course: u64, out: &mut Text)
+    requires { Fits 21 out.old }
+    ensures { Added (course_text mode course) out.old out.new × AtMost 21 out.old out.new }
 {
     match mode {
-        Mode::Lines | Mode::Fillets => text::put_text(b" -", at, buffer),
-        Mode::Dubins => text::put_count(b" ", course, at, buffer),
+        Mode::Lines | Mode::Fillets => out.text(b" -"),
+        Mode::Dubins => out.count(b" ", course),
     }
 }
 
@@ -108,45 +108,36 @@ fn course_at(courses: &[i32], i: usize) -> u64
     integers::magnitude(i64::from(courses[i]))
 }
 
-fn put_line(
-    mode: Mode,
-    number: usize,
-    point: Point,
-    course: u64,
-    at: usize,
-    buffer: &mut [u8],
-) -> usize
-    requires { at + 108 ≤ length buffer.old }
-    ensures { Wrote at (line_of mode number point course) buffer.old buffer.new result × (result ≤ at + 108) }
+fn put_line(mode: Mode, number: usize, point: Point, course: u64, out: &mut Text)
+    requires { Fits 108 out.old }
+    ensures { Added (line_of mode number point course) out.old out.new × AtMost 108 out.old out.new }
 {
-    let a = text::put_decimal(number as u64, at, buffer);
-    let b = put_point(point, a, buffer);
-    let c = put_course(mode, course, b, buffer);
-    text::put_byte(b'\n', c, buffer)
+    out.decimal(number as u64);
+    put_point(point, out);
+    put_course(mode, course, out);
+    out.byte(b'\n');
 }
 
 // A line for each point.
-fn put_lines(plan: Plan, from: usize, buffer: &mut [u8]) -> usize
-    requires { (plan.head.count ≤ most_points) × (from + 108 * plan.head.count ≤ length buffer.old) }
-    ensures { Wrote from (lines_to plan plan.head.count) buffer.old buffer.new result }
+fn put_lines(plan: Plan, out: &mut Text)
+    requires { (plan.head.count ≤ most_points) × Fits (108 * plan.head.count) out.old }
+    ensures { Added (lines_to plan plan.head.count) out.old out.new }
 {
     let lent = plan.lent();
-    let mut at = from;
     for i in 0..plan.head.count {
         let course = course_at(&plan.courses, i);
-        at = put_line(plan.head.mode, i + 1, lent.point_at(i), course, at, buffer);
+        put_line(plan.head.mode, i + 1, lent.point_at(i), course, out);
     }
-    at
 }
 
-fn put_plan(version: u16, plan: Plan, buffer: &mut [u8]) -> usize
-    requires { (plan.head.count ≤ most_points) × (listing_room ≤ length buffer.old) }
-    ensures { Wrote 0 (plan_text version plan) buffer.old buffer.new result }
+fn put_plan(version: u16, plan: Plan, out: &mut Text)
+    requires { (plan.head.count ≤ most_points) × Fits listing_room out.old }
+    ensures { Added (plan_text version plan) out.old out.new }
 {
     let head = plan.head;
-    let end = put_title(version, head, buffer);
-    let lines = text::put_byte(b'\n', end, buffer);
-    put_lines(plan, lines, buffer)
+    put_title(version, head, out);
+    out.byte(b'\n');
+    put_lines(plan, out);
 }
 
 // The listing of a file as the newest reader loads it, and its length. In a buffer of fewer than LISTING_ROOM bytes nothing is written, and the length is 0.
@@ -159,138 +150,144 @@ pub fn listing(file: &[u8], buffer: &mut [u8]) -> usize
     if buffer.len() < LISTING_ROOM {
         return 0;
     }
+    let mut out = Text::new(0, buffer);
     let loaded = wpl::load(file, records::NEWEST);
     if loaded.refusal == 0 {
         let state = loaded.state;
         let plan = state.plan;
-        return put_plan(records::u16_at(file, records::VERSION_OFFSET), plan, buffer);
+        put_plan(
+            records::u16_at(file, records::VERSION_OFFSET),
+            plan,
+            &mut out,
+        );
+        return out.at;
     }
-    let end = text::put_refusal(loaded.refusal as u64, loaded.place as u64, 0, buffer);
-    text::put_byte(b'\n', end, buffer)
+    out.refusal(loaded.refusal as u64, loaded.place as u64);
+    out.byte(b'\n');
+    out.at
 }
 
 // Numbers, a space before each.
-fn put_floats(numbers: &[f32], from: usize, buffer: &mut [u8]) -> usize
-    requires { from + 9 * length numbers.now ≤ length buffer.old }
-    ensures { Wrote from (floats_to numbers.now (length numbers.now)) buffer.old buffer.new result × (result ≤ from + 9 * length numbers.now) }
+fn put_floats(numbers: &[f32], out: &mut Text)
+    requires { Fits (9 * length numbers.now) out.old }
+    ensures { Added (floats_to numbers.now (length numbers.now)) out.old out.new × AtMost (9 * length numbers.now) out.old out.new }
 {
-    let mut at = from;
     for x in numbers {
-        let digits = text::put_byte(b' ', at, buffer);
-        at = text::put_float(*x, digits, buffer);
+        out.byte(b' ');
+        out.float(*x);
     }
-    at
 }
 
-fn put_sense(sense: u32, at: usize, buffer: &mut [u8]) -> usize
-    requires { at + 9 ≤ length buffer.old }
-    ensures { Wrote at (sense_text sense) buffer.old buffer.new result × (result ≤ at + 9) }
+fn put_sense(sense: u32, out: &mut Text)
+    requires { Fits 9 out.old }
+    ensures { Added (sense_text sense) out.old out.new × AtMost 9 out.old out.new }
 {
     if sense == 1 {
-        text::put_text(b" sense 1", at, buffer)
+        out.text(b" sense 1");
     } else {
-        text::put_text(b" sense -1", at, buffer)
+        out.text(b" sense -1");
     }
 }
 
 // A command of six numbers, or of four and a sense.
-fn put_command(kind: u32, sense: u32, numbers: &[f32], at: usize, buffer: &mut [u8]) -> usize
-    requires { (6 ≤ length numbers.now) × (at + 59 ≤ length buffer.old) }
-    ensures { Wrote at (command_text kind sense numbers.now) buffer.old buffer.new result × (result ≤ at + 59) }
+fn put_command(kind: u32, sense: u32, numbers: &[f32], out: &mut Text)
+    requires { (6 ≤ length numbers.now) × Fits 59 out.old }
+    ensures { Added (command_text kind sense numbers.now) out.old out.new × AtMost 59 out.old out.new }
 {
     match kind {
         LINE_KIND => {
-            let a = text::put_text(b" line", at, buffer);
-            put_floats(&numbers[..LINE_NUMBERS], a, buffer)
+            out.text(b" line");
+            put_floats(&numbers[..LINE_NUMBERS], out);
         }
         CIRCLE_KIND => {
-            let a = text::put_text(b" circle", at, buffer);
-            let b = put_floats(&numbers[..CIRCLE_NUMBERS], a, buffer);
-            put_sense(sense, b, buffer)
+            out.text(b" circle");
+            put_floats(&numbers[..CIRCLE_NUMBERS], out);
+            put_sense(sense, out);
         }
-        _ => text::put_text(b" nothing", at, buffer),
+        _ => out.text(b" nothing"),
     }
 }
 
 // A word of an answer behind a name.
-fn put_word(name: &[u8], value: u32, at: usize, buffer: &mut [u8]) -> usize
-    requires { at + (length name.now + 20) ≤ length buffer.old }
-    ensures { Wrote at (count_text name.now value) buffer.old buffer.new result × (result ≤ at + (length name.now + 20)) }
+fn put_word(name: &[u8], value: u32, out: &mut Text)
+    requires { Fits (length name.now + 20) out.old }
+    ensures { Added (count_text name.now value) out.old out.new × AtMost (length name.now + 20) out.old out.new }
 {
-    text::put_count(name, value as u64, at, buffer)
+    out.count(name, value as u64);
 }
 
-fn put_refused(number: u32, place: u32, at: usize, buffer: &mut [u8]) -> usize
-    requires { at + 53 ≤ length buffer.old }
-    ensures { Wrote at (space ++ refusal_text number place) buffer.old buffer.new result × (result ≤ at + 53) }
+fn put_refused(number: u32, place: u32, out: &mut Text)
+    requires { Fits 53 out.old }
+    ensures { Added (space ++ refusal_text number place) out.old out.new × AtMost 53 out.old out.new }
 {
-    let a = text::put_byte(b' ', at, buffer);
-    text::put_refusal(number as u64, place as u64, a, buffer)
+    out.byte(b' ');
+    out.refusal(number as u64, place as u64);
 }
 
 // The command and the heading, or the refusal.
-fn put_guided(answer: &[u32], numbers: &[f32], at: usize, buffer: &mut [u8]) -> usize
-    requires { (8 ≤ length answer.now) × ((6 ≤ length numbers.now) × (at + 88 ≤ length buffer.old)) }
-    ensures { Wrote at (guided_text answer.now numbers.now) buffer.old buffer.new result × (result ≤ at + 88) }
+fn put_guided(answer: &[u32], numbers: &[f32], out: &mut Text)
+    requires { (8 ≤ length answer.now) × ((6 ≤ length numbers.now) × Fits 88 out.old) }
+    ensures { Added (guided_text answer.now numbers.now) out.old out.new × AtMost 88 out.old out.new }
 {
     if answer[REFUSAL] == 0 {
-        let a = put_command(answer[KIND], answer[SENSE], numbers, at, buffer);
-        return put_word(b" heading ", answer[HEADING], a, buffer);
+        put_command(answer[KIND], answer[SENSE], numbers, out);
+        put_word(b" heading ", answer[HEADING], out);
+        return;
     }
-    put_refused(answer[REFUSAL], answer[PLACE], at, buffer)
+    put_refused(answer[REFUSAL], answer[PLACE], out);
 }
 
-fn put_progress(answer: &[u32], at: usize, buffer: &mut [u8]) -> usize
-    requires { (8 ≤ length answer.now) × (at + 85 ≤ length buffer.old) }
-    ensures { Wrote at (progress_text answer.now) buffer.old buffer.new result × (result ≤ at + 85) }
+fn put_progress(answer: &[u32], out: &mut Text)
+    requires { (8 ≤ length answer.now) × Fits 85 out.old }
+    ensures { Added (progress_text answer.now) out.old out.new × AtMost 85 out.old out.new }
 {
-    let a = put_word(b" index ", answer[INDEX], at, buffer);
-    let b = put_word(b" phase ", answer[PHASE], a, buffer);
-    let c = put_word(b" finished ", answer[FINISHED], b, buffer);
-    text::put_byte(b'\n', c, buffer)
+    put_word(b" index ", answer[INDEX], out);
+    put_word(b" phase ", answer[PHASE], out);
+    put_word(b" finished ", answer[FINISHED], out);
+    out.byte(b'\n');
 }
 
 // The line of a fix, by its number, the words of its answer and the numbers of its command. It takes FIX_ROOM bytes at most.
-pub fn put_fix(number: u64, answer: &[u32], numbers: &[f32], at: usize, buffer: &mut [u8]) -> usize
-    requires { (8 ≤ length answer.now) × ((6 ≤ length numbers.now) × (at + 197 ≤ length buffer.old)) }
-    ensures wrote { Wrote at (fix_text number answer.now numbers.now) buffer.old buffer.new result × (result ≤ at + 197) }
+pub fn put_fix(number: u64, answer: &[u32], numbers: &[f32], out: &mut Text)
+    requires { (8 ≤ length answer.now) × ((6 ≤ length numbers.now) × Fits 197 out.old) }
+    ensures wrote { Added (fix_text number answer.now numbers.now) out.old out.new × AtMost 197 out.old out.new }
     ensures fix_line_holds { FixLineHolds }
 {
-    let a = text::put_count(b"fix ", number, at, buffer);
-    let b = put_guided(answer, numbers, a, buffer);
-    put_progress(answer, b, buffer)
+    out.count(b"fix ", number);
+    put_guided(answer, numbers, out);
+    put_progress(answer, out);
 }
 
 // What a file's load answers.
-pub fn put_load(number: u8, place: usize, at: usize, buffer: &mut [u8]) -> usize
-    requires { at + 58 ≤ length buffer.old }
-    ensures { Wrote at (load_text number place) buffer.old buffer.new result }
+pub fn put_load(number: u8, place: usize, out: &mut Text)
+    requires { Fits 58 out.old }
+    ensures { Added (load_text number place) out.old out.new }
 {
-    let a = text::put_text(b"load ", at, buffer);
-    let b = text::put_refusal(number as u64, place as u64, a, buffer);
-    text::put_byte(b'\n', b, buffer)
+    out.text(b"load ");
+    out.refusal(number as u64, place as u64);
+    out.byte(b'\n');
 }
 
 // The bytes of a note.
-pub fn put_note(note: &[u8], at: usize, buffer: &mut [u8]) -> usize
-    requires { at + (6 + 2 * length note.now) ≤ length buffer.old }
-    ensures { Wrote at (note_text note.now) buffer.old buffer.new result }
+pub fn put_note(note: &[u8], out: &mut Text)
+    requires { Fits (6 + 2 * length note.now) out.old }
+    ensures { Added (note_text note.now) out.old out.new }
 {
-    let a = text::put_text(b"note ", at, buffer);
-    let b = text::put_bytes(note, a, buffer);
-    text::put_byte(b'\n', b, buffer)
+    out.text(b"note ");
+    out.bytes(note);
+    out.byte(b'\n');
 }
 
 // What a write answers, and the bytes of its room afterwards.
-pub fn put_written(written: Written, room: &[u8], at: usize, buffer: &mut [u8]) -> usize
-    requires { at + (88 + 2 * length room.now) ≤ length buffer.old }
-    ensures wrote { Wrote at (written_text written room.now) buffer.old buffer.new result }
+pub fn put_written(written: Written, room: &[u8], out: &mut Text)
+    requires { Fits (88 + 2 * length room.now) out.old }
+    ensures wrote { Added (written_text written room.now) out.old out.new }
     ensures answers_hold { AnswersHold }
 {
-    let a = text::put_text(b"write ", at, buffer);
-    let b = text::put_refusal(written.refusal as u64, written.place as u64, a, buffer);
-    let c = text::put_count(b" length ", written.length as u64, b, buffer);
-    let d = text::put_byte(b' ', c, buffer);
-    let e = text::put_bytes(room, d, buffer);
-    text::put_byte(b'\n', e, buffer)
+    out.text(b"write ");
+    out.refusal(written.refusal as u64, written.place as u64);
+    out.count(b" length ", written.length as u64);
+    out.byte(b' ');
+    out.bytes(room);
+    out.byte(b'\n');
 }

@@ -1,6 +1,8 @@
 // Compares the course table with sines worked out another way: not by a series, but by turning a vector by one unit 1,024 times.
 #![tactic(auto)]
 
+use text::Text;
+
 // How many entries the table has: a quarter of a circle, both ends included.
 const ENTRIES: usize = 1025;
 
@@ -50,7 +52,8 @@ fn agreeing() -> u64 {
 
 fn main(rt: HostRuntime) {
     let mut line = [0u8; LINE_ROOM];
-    let count = text::put_decimal(agreeing(), 0, &mut line);
-    let end = text::put_text(b" of 1025 entries agree\n", count, &mut line);
-    let _ = console::write(rt, &line[..end]);
+    let mut out = Text::new(0, &mut line);
+    out.decimal(agreeing());
+    out.text(b" of 1025 entries agree\n");
+    let _ = console::write(rt, out.written());
 }

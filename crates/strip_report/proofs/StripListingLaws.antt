@@ -8,7 +8,6 @@ use Prim.Native.Nat.{ℕ, ◌+◌, ◌*◌, ◌≤◌, ◌<◌}
 use native.Mathlib.Numerals.{add-one}
 use native.Mathlib.Omega.{arith}
 use lib.Dec.{eqb, ltb}
-use lib.ListN.{length}
 use borrow.Author.Tests.{ltb-true, ltb-false, eqb-true, eqb-false, eq-eqb, ne_eqb}
 use Rattle.std.proofs.Common.{Ok, Err}
 use Rattle.std.specs.Result.{is_ok}
@@ -17,8 +16,9 @@ use Rattle.conditions.proofs.ChooseLaws.{choose-true, choose-false}
 use Rattle.refusals.specs.Outcome.{Outcome, good, refused}
 use Rattle.refusals.specs.Sweep.{Done}
 use Rattle.text.specs.Parts.{refusal_text}
-use Rattle.text.specs.Written.{Wrote}
-use Rattle.text.proofs.WrittenLaws.{none, then}
+use Rattle.text.specs.declared.Text.{Text}
+use Rattle.text.specs.Added.{Fits, AtMost, Added}
+use Rattle.text.proofs.AddedLaws.{nothing, joined}
 use Rattle.manager.specs.declared.State.{State}
 use Rattle.manager.specs.State.{valid_of}
 use Rattle.manager.proofs.StateLaws.{valid-means}
@@ -47,26 +47,24 @@ unfolding strip_lines_to
 lines_next s i = rw add-one
 
 -- before line i of n
-pub record Underway (s : State) (from n : ℕ) (old now : List ℕ) (at i : ℕ) : Type 0 where
+pub record Underway (s : State) (n : ℕ) (old now : Text) (i : ℕ) : Type 0 where
   pub inside : i ≤ n
-  pub kept : length now ≡ length old
-  pub done : Wrote from (strip_lines_to s i) old now at
-  pub short : at ≤ from + 63 * i
+  pub done : Added (strip_lines_to s i) old now
+  pub short : AtMost (63 * i) old now
 
-module _ (s : State) (from n : ℕ) (old : List ℕ) (room : from + 63 * n ≤ length old) where
-  pub starts : Underway s from n old old from 0
+module _ (s : State) (n : ℕ) (old : Text) (room : Fits (63 * n) old) where
+  pub starts : Underway s n old old 0
   unfolding strip_lines_to
-  starts = record { inside = omega arith; kept = refl; done = none from old (omega arith); short = omega arith }
+  starts = record { inside = omega arith; done = nothing old (omega (arith, room)); short = omega arith }
 
-  module _ (now : List ℕ) (at i : ℕ) (u : Underway s from n old now at i) where
-    pub goes_on : (new : List ℕ) (to : ℕ) → i < n → length new ≡ length now → {row : Strip} → row ≡ strip_row s (i + 1)
-        → Wrote at (strip_line row) now new to × (to ≤ at + 63) → Underway s from n old new to (i + 1)
-    goes_on new to h k {row} e w =
-        let v : Wrote at (strip_line (strip_row s (i + 1))) now new to = rw (← e) w.0 in
+  module _ (now : Text) (i : ℕ) (u : Underway s n old now i) where
+    pub goes_on : (new : Text) → i < n → {row : Strip} → row ≡ strip_row s (i + 1) → Added (strip_line row) now new × AtMost 63 now new
+        → Underway s n old new (i + 1)
+    goes_on new h {row} e w =
+        let v : Added (strip_line (strip_row s (i + 1))) now new = rw (← e) w.0 in
         record {
           inside = omega arith;
-          kept = k ∙ u.kept;
-          done = rw (lines_next s i) (then u.done v);
+          done = rw (lines_next s i) (joined u.done v);
           short = omega (arith, u.short, w.1);
         }
 

@@ -1,8 +1,8 @@
 // What the program strip_listing prints, as text in a lent buffer: the strip listing of a plan file (docs/RULES.md, section 16).
 #![tactic(auto)]
 
-ghost use Rattle.std.specs.Prelude.{◌≡◌, ◌+◌, ◌*◌, ◌≤◌, length};
-ghost use Rattle.text.specs.Written.{Wrote};
+ghost use Rattle.std.specs.Prelude.{◌≡◌, ◌*◌, ◌≤◌, length};
+ghost use Rattle.text.specs.Added.{Fits, Added, AtMost};
 ghost use Rattle.strips.specs.Check.{refused_check, check_of};
 ghost use Rattle.report.specs.Listing.{listed_in, listed_length};
 ghost use Rattle.strip_report.specs.StripListing.{strip_title, strip_line, strip_lines_to, strips_text, fault_text, checked_text, strip_listing_of, strip_listing_room, StripsListed, OneListing};
@@ -11,63 +11,61 @@ ghost use Rattle.strip_report.specs.Holds.{StripListingHolds};
 use manager::State;
 use plan::Head;
 use strips::{Fault, Strip};
+use text::Text;
 
 // Room for every strip listing.
 pub const STRIP_LISTING_ROOM: usize = 2140;
 
-fn put_first_line(version: u16, head: Head, strips: usize, buffer: &mut [u8]) -> usize
-    requires { 124 ≤ length buffer.old }
-    ensures { Wrote 0 (strip_title version head strips) buffer.old buffer.new result × (result ≤ 124) }
+fn put_first_line(version: u16, head: Head, strips: usize, out: &mut Text)
+    requires { Fits 124 out.old }
+    ensures { Added (strip_title version head strips) out.old out.new × AtMost 124 out.old out.new }
 {
-    let a = report::put_title(version, head, buffer);
-    let b = text::put_count(b" strips ", strips as u64, a, buffer);
-    text::put_byte(b'\n', b, buffer)
+    report::put_title(version, head, out);
+    out.count(b" strips ", strips as u64);
+    out.byte(b'\n');
 }
 
-fn put_strip(strip: Strip, at: usize, buffer: &mut [u8]) -> usize
-    requires { at + 63 ≤ length buffer.old }
-    ensures { Wrote at (strip_line strip) buffer.old buffer.new result × (result ≤ at + 63) }
+fn put_strip(strip: Strip, out: &mut Text)
+    requires { Fits 63 out.old }
+    ensures { Added (strip_line strip) out.old out.new × AtMost 63 out.old out.new }
 {
-    let a = text::put_decimal(strip.number as u64, at, buffer);
-    let b = text::put_count(b" ", strip.course as u64, a, buffer);
-    let c = text::put_count(b" ", strip.length, b, buffer);
-    text::put_byte(b'\n', c, buffer)
+    out.decimal(strip.number as u64);
+    out.count(b" ", strip.course as u64);
+    out.count(b" ", strip.length);
+    out.byte(b'\n');
 }
 
 // A line for each strip.
-fn put_strips(state: State, strips: usize, from: usize, buffer: &mut [u8]) -> usize
-    requires { (strips ≡ (check_of state).strips) × (from + 63 * strips ≤ length buffer.old) }
-    ensures { Wrote from (strip_lines_to state strips) buffer.old buffer.new result }
+fn put_strips(state: State, strips: usize, out: &mut Text)
+    requires { (strips ≡ (check_of state).strips) × Fits (63 * strips) out.old }
+    ensures { Added (strip_lines_to state strips) out.old out.new }
 {
     let plan = state.plan.lent();
-    let mut at = from;
     for i in 0..strips {
-        let strip = strips::row_at(&plan, i + 1);
-        at = put_strip(strip, at, buffer);
+        put_strip(strips::row_at(&plan, i + 1), out);
     }
-    at
 }
 
-fn put_fault(fault: Fault, buffer: &mut [u8]) -> usize
-    requires { 79 ≤ length buffer.old }
-    ensures { Wrote 0 (fault_text (refused_check fault.refusal fault.place fault.rule)) buffer.old buffer.new result }
+fn put_fault(fault: Fault, out: &mut Text)
+    requires { Fits 79 out.old }
+    ensures { Added (fault_text (refused_check fault.refusal fault.place fault.rule)) out.old out.new }
 {
-    let a = text::put_refusal(u64::from(fault.refusal), fault.place as u64, 0, buffer);
-    let b = text::put_count(b" rule ", u64::from(fault.rule), a, buffer);
-    text::put_byte(b'\n', b, buffer)
+    out.refusal(u64::from(fault.refusal), fault.place as u64);
+    out.count(b" rule ", u64::from(fault.rule));
+    out.byte(b'\n');
 }
 
 // What the check of a state says: its strips, or the fault.
-fn put_checked(version: u16, state: State, buffer: &mut [u8]) -> usize
-    requires { strip_listing_room ≤ length buffer.old }
-    ensures { Wrote 0 (checked_text version state (check_of state)) buffer.old buffer.new result }
+fn put_checked(version: u16, state: State, out: &mut Text)
+    requires { Fits strip_listing_room out.old }
+    ensures { Added (checked_text version state (check_of state)) out.old out.new }
 {
     match strips::check(state) {
         Ok(strips) => {
-            let lines = put_first_line(version, state.plan.head, strips, buffer);
-            put_strips(state, strips, lines, buffer)
+            put_first_line(version, state.plan.head, strips, out);
+            put_strips(state, strips, out);
         }
-        Err(fault) => put_fault(fault, buffer),
+        Err(fault) => put_fault(fault, out),
     }
 }
 
@@ -82,12 +80,15 @@ pub fn strip_listing(file: &[u8], buffer: &mut [u8]) -> usize
     if buffer.len() < STRIP_LISTING_ROOM {
         return 0;
     }
+    let mut out = Text::new(0, buffer);
     let loaded = wpl::load(file, records::NEWEST);
     if loaded.refusal == 0 {
         let state = loaded.state;
         let version = records::u16_at(file, records::VERSION_OFFSET);
-        return put_checked(version, state, buffer);
+        put_checked(version, state, &mut out);
+        return out.at;
     }
-    let end = text::put_refusal(loaded.refusal as u64, loaded.place as u64, 0, buffer);
-    text::put_byte(b'\n', end, buffer)
+    out.refusal(loaded.refusal as u64, loaded.place as u64);
+    out.byte(b'\n');
+    out.at
 }

@@ -1,5 +1,5 @@
 -- Bytes in hexadecimal, byte by byte. Assumes nothing.
-use mathlib.Core.Path.{◌≡◌, refl, ◌∙◌}
+use mathlib.Core.Path.{◌≡◌}
 use mathlib.Core.List.{List, ◌++◌}
 use Prim.Native.Nat.{ℕ, ◌+◌, ◌*◌, ◌≤◌, ◌<◌}
 use native.Mathlib.Numerals.{add-one}
@@ -7,39 +7,37 @@ use native.Mathlib.Omega.{arith}
 use lib.ListN.{length, get_or}
 use Rattle.text.specs.Digits.{hex_of}
 use Rattle.text.specs.Parts.{bytes_to, bytes_text}
-use Rattle.text.specs.Written.{Wrote}
-use Rattle.text.proofs.WrittenLaws.{none, then}
+use Rattle.text.specs.declared.Text.{Text}
+use Rattle.text.specs.Added.{Fits, AtMost, Added}
+use Rattle.text.proofs.AddedLaws.{nothing, joined}
 
 bytes_next : (xs : List ℕ) (i : ℕ) → bytes_to xs (i + 1) ≡ bytes_to xs i ++ hex_of 2 (get_or xs i 0)
 unfolding bytes_to
 bytes_next xs i = rw add-one
 
 -- before byte i
-pub record Spelling (xs : List ℕ) (from : ℕ) (old now : List ℕ) (at i : ℕ) : Type 0 where
+pub record Spelling (xs : List ℕ) (old now : Text) (i : ℕ) : Type 0 where
   pub inside : i ≤ length xs
-  pub kept : length now ≡ length old
-  pub done : Wrote from (bytes_to xs i) old now at
-  pub short : at ≤ from + 2 * i
+  pub done : Added (bytes_to xs i) old now
+  pub short : AtMost (2 * i) old now
 
-module _ (xs : List ℕ) (from : ℕ) (old : List ℕ) (room : from + 2 * length xs ≤ length old) where
-  pub starts : Spelling xs from old old from 0
+module _ (xs : List ℕ) (old : Text) (room : Fits (2 * length xs) old) where
+  pub starts : Spelling xs old old 0
   unfolding bytes_to
-  starts = record { inside = omega arith; kept = refl; done = none from old (omega arith); short = omega arith }
+  starts = record { inside = omega arith; done = nothing old (omega (arith, room)); short = omega arith }
 
-  module _ (now : List ℕ) (at i : ℕ) (u : Spelling xs from old now at i) where
-    pub fits : i < length xs → at + 2 ≤ length now
-    fits h = omega (arith, u.kept, u.short)
+  module _ (now : Text) (i : ℕ) (u : Spelling xs old now i) where
+    pub fits : i < length xs → Fits 2 now
+    fits h = omega (arith, room, u.done.kept, u.short)
 
-    pub goes_on : (new : List ℕ) (to : ℕ) → i < length xs → length new ≡ length now
-        → Wrote at (hex_of 2 (get_or xs i 0)) now new to × (to ≡ at + 2) → Spelling xs from old new to (i + 1)
-    goes_on new to h k w =
+    pub goes_on : (new : Text) → i < length xs → Added (hex_of 2 (get_or xs i 0)) now new × (new.at ≡ now.at + 2) → Spelling xs old new (i + 1)
+    goes_on new h w =
         record {
           inside = omega arith;
-          kept = k ∙ u.kept;
-          done = rw (bytes_next xs i) (then u.done w.0);
+          done = rw (bytes_next xs i) (joined u.done w.0);
           short = omega (arith, u.short, w.1);
         }
 
-    pub ends : length xs ≤ i → Wrote from (bytes_text xs) old now at × (at ≤ from + 2 * length xs)
+    pub ends : length xs ≤ i → Added (bytes_text xs) old now × AtMost (2 * length xs) old now
     unfolding bytes_text
     ends h = let e : i ≡ length xs = omega (arith, u.inside) in (rw e at u.done, omega (arith, u.short))

@@ -1,5 +1,6 @@
 pub mod DigitLaws
 pub mod WrittenLaws
+pub mod AddedLaws
 pub mod ReadLaws
 pub mod BytesLaws
 pub mod HoldsLaws

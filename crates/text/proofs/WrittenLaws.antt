@@ -1,28 +1,12 @@
 -- One text behind another is the two joined. Assumes nothing.
-use mathlib.Core.Path.{◌≡◌, refl, sym, ap, ◌∙◌}
-use mathlib.Core.List.{List, [], ◌∷◌, ◌++◌, append_assoc}
-use Prim.Native.Nat.{ℕ, ◌+◌, ◌≤◌, ◌<◌}
+use mathlib.Core.Path.{refl, sym, ap, ◌∙◌}
+use mathlib.Core.List.{List, [], ◌++◌}
+use Prim.Native.Nat.{ℕ, ◌+◌, ◌≤◌}
 use native.Mathlib.Omega.{arith}
-use lib.ListN.{length, take, drop, set, length-append, length-take, length-drop, length-set}
-use lib.Seq.{sets-eq}
+use lib.ListN.{length, length-append, length-take, length-drop}
 use Rattle.buffers.specs.Splice.{splice}
 use Rattle.buffers.proofs.SpliceLaws.{further, unchanged}
 use Rattle.text.specs.Written.{Wrote}
-
--- a text that fits leaves the length as it was
-pub kept : (at : ℕ) (text old : List ℕ) → at + length text ≤ length old → length (splice at text old) ≡ length old
-kept at text old h = simp (length-append, length-take, length-drop) (omega arith)
-
-pub copied : (at : ℕ) (text old new : List ℕ) → at + length text ≤ length old → new ≡ splice at text old → Wrote at text old new (at + length text)
-copied at text old new h e = record { bytes = e; ends = refl; inside = omega (arith, ap length e ∙ kept at text old h) }
-
-pub one : (at b : ℕ) (old : List ℕ) → at < length old → Wrote at (b ∷ []) old (set old at b) (at + 1)
-one at b old h =
-    record {
-      bytes = sets-eq (b ∷ []) old at (omega arith) ∙ append_assoc (take at old) (b ∷ []) (drop (at + 1) old);
-      ends = omega arith;
-      inside = rw (length-set old at b) (omega arith);
-    }
 
 pub none : (at : ℕ) (old : List ℕ) → at ≤ length old → Wrote at [] old old at
 none at old h = record { bytes = sym (unchanged at old); ends = omega arith; inside = h }

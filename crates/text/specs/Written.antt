@@ -1,4 +1,4 @@
--- No clause: what writing a text from a place on comes to: it stands there whole, every other byte is what it was, and the answer is the place
+-- No clause: what writing a text from a place on comes to: it stands there whole, every other byte is what it was, and the end is the place
 -- behind it. Assumes nothing.
 use Rattle.std.specs.Prelude.{◌≡◌, List, ℕ, ◌+◌, ◌≤◌, length}
 use Rattle.buffers.specs.Splice.{splice}

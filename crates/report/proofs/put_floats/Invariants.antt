@@ -4,4 +4,4 @@ use Rattle.report.proofs.FixLaws.{Floating}
 use Rattle.report.proofs.put_floats.Given as goal
 
 abbrev pub invariant-loop-x : goal.invariant-loop-x
-invariant-loop-x l = Floating l.numbers l.from (length l.numbers) l.initial.buffer l.buffer l.at l.x-index
+invariant-loop-x l = Floating l.numbers (length l.numbers) l.initial.out l.out l.x-index

@@ -5,8 +5,8 @@ use Rattle.report.proofs.put_sense.Goals as goal
 
 pub returns-then-sense-eq1 : goal.returns-then-sense-eq1
 returns-then-sense-eq1 c =
-    rw (sense-right c.args.sense c.if-sense-eq1.true) (c.put_text.ensures, omega (arith, c.put_text.ensures.ends))
+    rw (sense-right c.args.sense c.if-sense-eq1.true) (c.text.ensures, omega (arith, c.text.ensures.wrote.ends))
 
 pub returns-else-sense-eq1 : goal.returns-else-sense-eq1
 returns-else-sense-eq1 c =
-    rw (sense-left c.args.sense c.if-sense-eq1.false) (c.put_text-else-sense-eq1.ensures, omega (arith, c.put_text-else-sense-eq1.ensures.ends))
+    rw (sense-left c.args.sense c.if-sense-eq1.false) (c.text-else-sense-eq1.ensures, omega (arith, c.text-else-sense-eq1.ensures.wrote.ends))

@@ -1,5 +1,5 @@
 -- `put_written` writes the line of a write. Assumes nothing.
-use Rattle.text.proofs.WrittenLaws.{then}
+use Rattle.text.proofs.AddedLaws.{joined}
 use Rattle.report.specs.Answers.{written_text}
 use Rattle.report.proofs.HoldsLaws.{answers-hold}
 use Rattle.report.proofs.put_written.Goals as goal
@@ -8,8 +8,8 @@ pub returns : goal.returns
 unfolding written_text
 returns c =
     record {
-      wrote = then c.put_text-a.ensures
-          (then c.put_refusal-b.ensures.wrote.0
-          (then c.put_count-c.ensures.wrote.0 (then c.put_byte-d.ensures (then c.put_bytes-e.ensures.wrote.0 c.put_byte.ensures))));
+      wrote = joined c.text.ensures
+          (joined c.refusal.ensures.wrote.0
+          (joined c.count.ensures.wrote.0 (joined c.byte.ensures (joined c.bytes.ensures.wrote.0 c.byte-2.ensures))));
       answers_hold = answers-hold;
     }

@@ -12,16 +12,16 @@ use Rattle.strip_report.proofs.put_strips.Goals as goal
 
 pub loop-i-init : goal.loop-i-init
 loop-i-init c =
-    starts c.args.state c.args.from c.args.strips c.args.buffer.now c.requires.1
+    starts c.args.state c.args.strips c.args.out.now c.requires.1
 
-pub row_at-strip-requires : goal.row_at-strip-requires
-row_at-strip-requires c =
+pub row_at-requires : goal.row_at-requires
+row_at-requires c =
     let s = c.args.state in
     subst (λ (p : Plan). StripThere p (c.loop-i.i + 1)) (sym c.lent-plan.ensures) (row-there s (search rules) refl (omega arith) (omega (arith, c.requires.0)))
 
 pub loop-i-preserved : goal.loop-i-preserved
 loop-i-preserved c =
     let s = c.args.state in
-    let e = c.row_at-strip.ensures ∙ ap (λ (p : Plan). strip_of (plan_point p) (plan_course p) (c.loop-i.i + 1)) c.lent-plan.ensures in
-    goes_on s c.args.from c.args.strips c.args.buffer.now c.requires.1 _ _ _ c.loop-i.invariant _ _ (omega arith) (search rules)
-    (e ∙ sym (row_of s refl (omega arith) (omega (arith, c.requires.0)))) c.put_strip-at.ensures
+    let e = c.row_at.ensures ∙ ap (λ (p : Plan). strip_of (plan_point p) (plan_course p) (c.loop-i.i + 1)) c.lent-plan.ensures in
+    goes_on s c.args.strips c.args.out.now c.requires.1 _ _ c.loop-i.invariant _ (omega arith)
+    (e ∙ sym (row_of s refl (omega arith) (omega (arith, c.requires.0)))) c.put_strip.ensures

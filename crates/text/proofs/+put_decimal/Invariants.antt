@@ -1,5 +1,0 @@
--- What falls with each call of `put_decimal` by itself: the number. Assumes nothing.
-use Rattle.text.proofs.+put_decimal.Given as goal
-
-abbrev pub decreases-put_decimal : goal.decreases-put_decimal
-decreases-put_decimal l = l.n

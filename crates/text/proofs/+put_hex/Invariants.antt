@@ -1,5 +1,0 @@
--- What falls with each call of `put_hex` by itself: the digits that are left. Assumes nothing.
-use Rattle.text.proofs.+put_hex.Given as goal
-
-abbrev pub decreases-put_hex : goal.decreases-put_hex
-decreases-put_hex l = l.count
