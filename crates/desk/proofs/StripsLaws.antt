@@ -1,11 +1,16 @@
 -- The strips of words: by the state that they hold, or none. Assumes nothing.
-use mathlib.Core.Path.{◌≡◌}
+use mathlib.Core.Path.{◌≡◌, sym, ap, ◌∙◌}
 use mathlib.Core.Bool.{true, false}
 use mathlib.Core.List.{List}
 use Prim.Native.Nat.{ℕ}
 use lib.IntN.{ℤ}
+use Rattle.std.proofs.Common.{Result}
+use Rattle.conditions.specs.Choose.{choose}
+use Rattle.conditions.proofs.Bools.{by_bool}
 use Rattle.refusals.specs.Numbers.{no_state}
-use Rattle.strips.specs.Check.{refused_check, check_of, no_strip, strip_row}
+use Rattle.strips.specs.declared.Fault.{Fault}
+use Rattle.strips.specs.Check.{refused_check, check_of, answered, numbered, no_strip, strip_row}
+use Rattle.strips.proofs.CheckLaws.{told}
 use Rattle.c_state.specs.Stored.{state_at, holds_state, taken_of}
 use Rattle.c_state.proofs.TakenLaws.{held, not-held}
 use Rattle.desk.specs.Calls.{check_in, strip_row_in}
@@ -26,3 +31,11 @@ module _ (ws : List ℤ) where
   pub row-unheld : (number : ℕ) → holds_state ws ≡ false → strip_row_in (taken_of ws) number ≡ no_strip
   unfolding strip_row_in
   row-unheld number h = rw (not-held ws h)
+
+  -- an answer says all numbers of the check
+  pub told_in : {r : Result ℕ Fault} → r ≡ answered (check_in (taken_of ws)) → numbered r ≡ check_in (taken_of ws)
+  unfolding answered choose
+  told_in e =
+      by_bool (holds_state ws)
+      (λ h. let k = check-held h in told (state_at ws) (e ∙ ap answered k) ∙ sym k)
+      (λ h. let k = check-unheld h in ap numbered (e ∙ ap answered k) ∙ sym k)

@@ -11,9 +11,8 @@ use Rattle.records.specs.Kinds.{note_row}
 use Rattle.c_answer.specs.Words.{word_of}
 use Rattle.wpl.specs.declared.Loaded.{Loaded}
 use Rattle.manager.specs.declared.State.{State}
-use Rattle.strips.specs.declared.Checked.{Checked}
 use Rattle.strips.specs.declared.Strip.{Strip}
-use Rattle.strips.specs.Check.{refused_check, check_of, no_strip, strip_row}
+use Rattle.strips.specs.Check.{Checked, refused_check, check_of, no_strip, strip_row}
 use Rattle.c_state.specs.Stored.{pair_fits}
 
 -- ---- any call

@@ -6,12 +6,13 @@ ghost use Rattle.std.specs.Prelude.{◌≡◌, [], ◌∷◌, ◌⊎◌, ◌≤�
 ghost use Rattle.refusals.specs.Numbers.{not_strips};
 ghost use Rattle.c_answer.specs.Words.{interface};
 ghost use Rattle.c_state.specs.Stored.{state_length, taken_of};
+ghost use Rattle.strips.specs.Check.{answered, numbered};
 ghost use Rattle.wpl.specs.Load.{load_of, loaded_of};
 ghost use Rattle.wpl.specs.Note.{note_of, notes_of, Numbered};
 ghost use Rattle.desk.specs.Calls.{call_result, words_fit, words_answer, most_note, note_fits, note_buffer, note_answer, check_words, check_in, strips_words, strips_fit, strip_row_in, strip_words, strip_fits};
 ghost use Rattle.desk.specs.Example.{NoteExample, WordsExample, StripsExample};
 
-use strips::{Checked, Strip, Told};
+use strips::{Fault, Strip, Told};
 
 // The most bytes of a note.
 const MOST_NOTE: usize = records::NOTE_ROW.high;
@@ -101,24 +102,45 @@ pub fn farnkuppel_notes(file: &[u8], answer: &mut [u32]) -> u32
 // What the words of a state say of strips: the check, and the row of a strip by its number from 1. Their blocks are lent as they lie.
 fn told_at(words: &[i32], number: usize) -> Told
     requires { state_length ≤ length words.now }
-    ensures checked_value { result.checked ≡ check_in (taken_of words.now) }
+    ensures checked_value { result.checked ≡ answered (check_in (taken_of words.now)) }
     ensures strip_value { result.strip ≡ strip_row_in (taken_of words.now) number }
 {
     if c_state::holds_state(words) {
-        return strips::told_from(&c_state::plan_at(words), c_state::progress_at(words), number);
+        return strips::told_from(
+            &c_state::plan_at(words),
+            c_state::progress_at(words),
+            number,
+        );
     }
-    let checked = Checked {
+    let fault = Fault {
         refusal: refusals::NO_STATE,
         place: 0,
         rule: 0,
-        strips: 0,
     };
     let strip = Strip {
         number: 0,
         course: 0,
         length: 0,
     };
-    Told { checked, strip }
+    Told {
+        checked: Err(fault),
+        strip,
+    }
+}
+
+// The words of a check: the refusal, its place and rule, and how many strips there are.
+fn words_of(checked: Result<usize, Fault>) -> [u32; 4]
+    ensures { result ≡ strips_words (numbered checked) }
+{
+    match checked {
+        Ok(strips) => [0, 0, 0, c_answer::word(strips)],
+        Err(fault) => [
+            u32::from(fault.refusal),
+            c_answer::word(fault.place),
+            u32::from(fault.rule),
+            0,
+        ],
+    }
 }
 
 // Whether the plan of a state is a strip plan.
@@ -132,17 +154,9 @@ pub fn farnkuppel_strips(state: &[i32], answer: &mut [u32]) -> u32
     }
     // No strip has the number 0: the check alone is asked.
     let told = told_at(state, 0);
-    let found = told.checked;
-    let number = found.refusal as u32;
-    let rule = found.rule as u32;
-    let values = [
-        number,
-        c_answer::word(found.place),
-        rule,
-        c_answer::word(found.strips),
-    ];
-    buffers::put(&values, answer);
-    number
+    let words = words_of(told.checked);
+    buffers::put(&words, answer);
+    words[0]
 }
 
 // A strip of the plan of a state, by its number from 1: zeros where the plan is no strip plan or has no such strip.

@@ -1,7 +1,7 @@
 -- The lines of a state's strips, strip by strip; no state has more than there is room for; what the check of a loaded state says; and that one
 -- text alone is the strip listing of a file. Assumes nothing.
 use mathlib.Core.Path.{◌≡◌, refl, sym, ap, ◌∙◌, subst}
-use mathlib.Core.Bool.{true}
+use mathlib.Core.Bool.{true, false}
 use mathlib.Core.List.{List, ◌++◌}
 use mathlib.Core.Logic.{⊎_elim}
 use Prim.Native.Nat.{ℕ, ◌+◌, ◌*◌, ◌≤◌, ◌<◌}
@@ -10,7 +10,9 @@ use native.Mathlib.Omega.{arith}
 use lib.Dec.{eqb, ltb}
 use lib.ListN.{length}
 use borrow.Author.Tests.{ltb-true, ltb-false, eqb-true, eqb-false, eq-eqb, ne_eqb}
-use Rattle.conditions.proofs.Bools.{by_bool}
+use Rattle.std.proofs.Common.{Ok, Err}
+use Rattle.std.specs.Result.{is_ok}
+use Rattle.conditions.proofs.Bools.{by_bool, clash}
 use Rattle.conditions.proofs.ChooseLaws.{choose-true, choose-false}
 use Rattle.refusals.specs.Outcome.{Outcome, good, refused}
 use Rattle.refusals.specs.Sweep.{Done}
@@ -27,11 +29,11 @@ use Rattle.wpl.specs.Load.{load_of, loaded_of}
 use Rattle.wpl.specs.Starts.{GivenByLoad}
 use Rattle.wpl.proofs.GivenLaws.{load-numbers}
 use Rattle.wpl.proofs.StartLaws.{load-valid}
-use Rattle.strips.specs.declared.Checked.{Checked}
+use Rattle.strips.specs.declared.Fault.{Fault}
 use Rattle.strips.specs.declared.Strip.{Strip}
 use Rattle.strips.specs.Strips.{strips_in, StripPlan}
-use Rattle.strips.specs.Check.{refused_check, paired_of, fault_check, check_of, strip_row}
-use Rattle.strips.proofs.CheckLaws.{check-unpaired, check-paired}
+use Rattle.strips.specs.Check.{Checked, refused_check, paired_of, fault_check, check_of, answered, numbered, strip_row}
+use Rattle.strips.proofs.CheckLaws.{check-unpaired, check-paired, told}
 use Rattle.strips.proofs.RowLaws.{counts}
 use Rattle.strips.proofs.TiedLaws.{tied}
 use Rattle.report.specs.Listing.{newline}
@@ -85,6 +87,20 @@ module _ (version : ℕ) (s : State) (x : Checked) where
   unfolding checked_text
   text-faults h = choose-false _ _ _ (ne_eqb x.refusal 0 h)
 
+-- by what the check of a state answers
+module _ (version : ℕ) (s : State) where
+  answered-refuses : {f : Fault} → Err f ≡ answered (check_of s) → f.refusal ≡ 0 → ⊥
+  unfolding answered
+  answered-refuses e z =
+      let n : (check_of s).refusal ≡ 0 = sym (ap (λ (x : Checked). x.refusal) (told s e)) ∙ z in
+      clash false (ap is_ok (e ∙ choose-true _ _ _ (eq-eqb (check_of s).refusal 0 n))) refl
+
+  pub text-strips : {strips : ℕ} → Ok strips ≡ answered (check_of s) → checked_text version s (check_of s) ≡ strips_text version s strips
+  text-strips {strips} e = ap (checked_text version s) (sym (told s e)) ∙ text-passes version s (numbered (Ok strips)) refl
+
+  pub text-fault : {f : Fault} → Err f ≡ answered (check_of s) → checked_text version s (check_of s) ≡ fault_text (refused_check f.refusal f.place f.rule)
+  text-fault {f} e = ap (checked_text version s) (sym (told s e)) ∙ text-faults version s (numbered (Err f)) (answered-refuses e)
+
 -- ---- a file that loads, and one that is refused
 module _ (version : ℕ) (x : Loaded) where
   pub strips-loaded : x.refusal ≡ 0 → loaded_strips version x ≡ checked_text version x.state (check_of x.state)
@@ -100,19 +116,19 @@ not-nought : {number : ℕ} → GivenByLoad number → number ≡ 0 → ⊥
 not-nought g z = ⊎_elim (λ k. omega (arith, k.0, z)) (λ k. omega (arith, k, z)) g
 
 -- ---- what the check of a loaded state says, and with it the strip listing of its file
-abbrev Fault : Checked → Type 0
-Fault x = (x.refusal ≡ 0 → ⊥) → x ≡ refused_check 18 x.place x.rule
+abbrev Faulty : Checked → Type 0
+Faulty x = (x.refusal ≡ 0 → ⊥) → x ≡ refused_check 18 x.place x.rule
 
-fault-number : (n : ℕ) (o : Outcome Done) → Fault (fault_check n o)
+fault-number : (n : ℕ) (o : Outcome Done) → Faulty (fault_check n o)
 unfolding fault_check
 fault-number n (good d) h = absurd (h refl)
 fault-number n (refused rule j) h = refl
 
-check-number : (s : State) → valid_of s ≡ true → Fault (check_of s)
+check-number : (s : State) → valid_of s ≡ true → Faulty (check_of s)
 check-number s v =
     by_bool (paired_of s.plan.head.mode s.plan.head.count)
-    (λ p. subst Fault (sym (check-paired s v p)) (fault-number _ _))
-    (λ p. subst Fault (sym (check-unpaired s v p)) (λ _. refl))
+    (λ p. subst Faulty (sym (check-paired s v p)) (fault-number _ _))
+    (λ p. subst Faulty (sym (check-unpaired s v p)) (λ _. refl))
 
 module _ (file : List ℕ) (s : State) (loads : load_of newest file ≡ good s) where
   listed-check : strip_listing_of file ≡ checked_text (version_of file) s (check_of s)

@@ -11,10 +11,9 @@ use Rattle.records.specs.Versions.{newest}
 use Rattle.wpl.specs.declared.Loaded.{Loaded}
 use Rattle.wpl.specs.Header.{version_of}
 use Rattle.wpl.specs.Load.{load_of, loaded_of}
-use Rattle.strips.specs.declared.Checked.{Checked}
 use Rattle.strips.specs.declared.Strip.{Strip}
 use Rattle.strips.specs.Strips.{strips_in, StripPlan}
-use Rattle.strips.specs.Check.{refused_check, check_of, strip_row}
+use Rattle.strips.specs.Check.{Checked, refused_check, check_of, strip_row}
 use Rattle.report.specs.Listing.{newline, space, title_of}
 
 -- ---- 16.8: the first line, and a line for each strip

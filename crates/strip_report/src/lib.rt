@@ -3,14 +3,14 @@
 
 ghost use Rattle.std.specs.Prelude.{◌≡◌, ◌+◌, ◌*◌, ◌≤◌, length};
 ghost use Rattle.text.specs.Written.{Wrote};
-ghost use Rattle.strips.specs.Check.{check_of};
+ghost use Rattle.strips.specs.Check.{refused_check, check_of};
 ghost use Rattle.report.specs.Listing.{listed_in, listed_length};
 ghost use Rattle.strip_report.specs.StripListing.{strip_title, strip_line, strip_lines_to, strips_text, fault_text, checked_text, strip_listing_of, strip_listing_room, StripsListed, OneListing};
 ghost use Rattle.strip_report.specs.Holds.{StripListingHolds};
 
 use manager::State;
 use plan::Head;
-use strips::{Checked, Strip};
+use strips::{Fault, Strip};
 
 // Room for every strip listing.
 pub const STRIP_LISTING_ROOM: usize = 2140;
@@ -39,40 +39,36 @@ fn put_strips(state: State, strips: usize, from: usize, buffer: &mut [u8]) -> us
     requires { (strips ≡ (check_of state).strips) × (from + 63 * strips ≤ length buffer.old) }
     ensures { Wrote from (strip_lines_to state strips) buffer.old buffer.new result }
 {
+    let plan = state.plan.lent();
     let mut at = from;
     for i in 0..strips {
-        let strip = strips::row_at(
-            &state.plan.norths,
-            &state.plan.easts,
-            &state.plan.downs,
-            &state.plan.courses,
-            i + 1,
-        );
+        let strip = strips::row_at(&plan, i + 1);
         at = put_strip(strip, at, buffer);
     }
     at
 }
 
-fn put_fault(checked: Checked, buffer: &mut [u8]) -> usize
+fn put_fault(fault: Fault, buffer: &mut [u8]) -> usize
     requires { 79 ≤ length buffer.old }
-    ensures { Wrote 0 (fault_text checked) buffer.old buffer.new result }
+    ensures { Wrote 0 (fault_text (refused_check fault.refusal fault.place fault.rule)) buffer.old buffer.new result }
 {
-    let a = text::put_refusal(checked.refusal as u64, checked.place as u64, 0, buffer);
-    let b = text::put_count(b" rule ", checked.rule as u64, a, buffer);
+    let a = text::put_refusal(u64::from(fault.refusal), fault.place as u64, 0, buffer);
+    let b = text::put_count(b" rule ", u64::from(fault.rule), a, buffer);
     text::put_byte(b'\n', b, buffer)
 }
 
 // What the check of a state says: its strips, or the fault.
-fn put_checked(version: u16, state: State, checked: Checked, buffer: &mut [u8]) -> usize
-    requires { (checked ≡ check_of state) × (strip_listing_room ≤ length buffer.old) }
-    ensures { Wrote 0 (checked_text version state checked) buffer.old buffer.new result }
+fn put_checked(version: u16, state: State, buffer: &mut [u8]) -> usize
+    requires { strip_listing_room ≤ length buffer.old }
+    ensures { Wrote 0 (checked_text version state (check_of state)) buffer.old buffer.new result }
 {
-    if checked.refusal == 0 {
-        let head = state.plan.head;
-        let lines = put_first_line(version, head, checked.strips, buffer);
-        return put_strips(state, checked.strips, lines, buffer);
+    match strips::check(state) {
+        Ok(strips) => {
+            let lines = put_first_line(version, state.plan.head, strips, buffer);
+            put_strips(state, strips, lines, buffer)
+        }
+        Err(fault) => put_fault(fault, buffer),
     }
-    put_fault(checked, buffer)
 }
 
 // The strip listing of a file as the newest reader loads it, and its length. In a buffer of fewer than STRIP_LISTING_ROOM bytes nothing is written,
@@ -89,9 +85,8 @@ pub fn strip_listing(file: &[u8], buffer: &mut [u8]) -> usize
     let loaded = wpl::load(file, records::NEWEST);
     if loaded.refusal == 0 {
         let state = loaded.state;
-        let checked = strips::check(state);
         let version = records::u16_at(file, records::VERSION_OFFSET);
-        return put_checked(version, state, checked, buffer);
+        return put_checked(version, state, buffer);
     }
     let end = text::put_refusal(loaded.refusal as u64, loaded.place as u64, 0, buffer);
     text::put_byte(b'\n', end, buffer)

@@ -13,7 +13,7 @@ use Rattle.conditions.proofs.ChooseLaws.{choose-true, choose-false}
 use Rattle.refusals.specs.declared.Refusal.{Refusal}
 use Rattle.refusals.specs.Numbers.{no_state, not_strips}
 use Rattle.refusals.specs.Outcome.{Outcome, good, refused}
-use Rattle.refusals.specs.Sweep.{Done, answer_of}
+use Rattle.refusals.specs.Sweep.{Done, passed_of}
 use Rattle.plan.specs.Places.{plan_point, plan_course}
 use Rattle.manager.specs.declared.State.{State}
 use Rattle.manager.specs.State.{valid_of}
@@ -46,13 +46,13 @@ first_of (Err r) = r
 abbrev pub broken_by : Refusal → Fault
 broken_by r = record { refusal = not_strips; place = r.place; rule = r.number }
 
-pub fault-none : (n : ℕ) (o : Outcome Done) → is_ok (answer_of o) ≡ true → Ok (strips_in n) ≡ answered (fault_check n o)
-unfolding answer_of fault_check answered choose
+pub fault-none : (n : ℕ) (o : Outcome Done) → is_ok (passed_of o) ≡ true → Ok (strips_in n) ≡ answered (fault_check n o)
+unfolding passed_of fault_check answered choose
 fault-none n (good d) h = refl
 fault-none n (refused rule strip) h = clash false h refl
 
-pub fault-found : (n : ℕ) (o : Outcome Done) {r : Refusal} → Err r ≡ answer_of o → refused_with (broken_by r) ≡ answered (fault_check n o)
-unfolding answer_of fault_check answered choose
+pub fault-found : (n : ℕ) (o : Outcome Done) {r : Refusal} → Err r ≡ passed_of o → refused_with (broken_by r) ≡ answered (fault_check n o)
+unfolding passed_of fault_check answered choose
 fault-found n (good d) e = clash false (ap is_ok e) refl
 fault-found n (refused rule strip) e = ap (λ (r : Refusal). refused_with (broken_by r)) (ap first_of e)
 

@@ -3,7 +3,7 @@
 #![tactic(auto)]
 
 ghost use Rattle.std.specs.Prelude.{◌≡◌, ◌≤◌, ◌<◌};
-ghost use Rattle.refusals.specs.Sweep.{noted, answer_of};
+ghost use Rattle.refusals.specs.Sweep.{noted, passed_of};
 ghost use Rattle.course.specs.Vectors.{Near};
 ghost use Rattle.plan.specs.Limits.{most_points, full_circle};
 ghost use Rattle.plan.specs.Places.{plan_point, plan_course};
@@ -102,7 +102,7 @@ fn rule_broken(plan: &Lent, number: usize) -> Option<u8>
 // The first strip at fault as the place, and the first of its rules broken as the number.
 fn first_fault(plan: &Lent) -> Result<(), Refusal>
     requires { StripsThere (lent_plan plan.now) }
-    ensures { result ≡ answer_of (fault_of (plan_point (lent_plan plan.now)) (plan_course (lent_plan plan.now)) plan.now.head.count) }
+    ensures { result ≡ passed_of (fault_of (plan_point (lent_plan plan.now)) (plan_course (lent_plan plan.now)) plan.now.head.count) }
 {
     refusals::sweep(0..plan.head.count / 2, |i| rule_broken(plan, i + 1))
 }

@@ -6,4 +6,4 @@ use Rattle.strip_report.proofs.put_fault.Goals as goal
 pub returns : goal.returns
 unfolding fault_text
 returns c =
-    then c.put_refusal-a.ensures.wrote.0 (then c.put_count-b.ensures.wrote.0 c.put_byte.ensures)
+    rw (← c.from.ensures, ← c.from-2.ensures) (then c.put_refusal-a.ensures.wrote.0 (then c.put_count-b.ensures.wrote.0 c.put_byte.ensures))

@@ -1,7 +1,11 @@
 -- `put_strips` writes a line for each strip. Assumes nothing.
-use mathlib.Core.Path.{refl, sym, ◌∙◌}
+use mathlib.Core.Path.{refl, sym, ap, ◌∙◌, subst}
+use Prim.Native.Nat.{◌+◌}
 use native.Mathlib.Omega.{arith}
 use borrow.Author.Rules.{rules}
+use Rattle.plan.specs.declared.Plan.{Plan}
+use Rattle.plan.specs.Places.{plan_point, plan_course}
+use Rattle.strips.specs.Check.{strip_of, StripThere}
 use Rattle.strips.proofs.RowLaws.{row-there, row_of}
 use Rattle.strip_report.proofs.StripListingLaws.{starts, goes_on}
 use Rattle.strip_report.proofs.put_strips.Goals as goal
@@ -12,9 +16,12 @@ loop-i-init c =
 
 pub row_at-strip-requires : goal.row_at-strip-requires
 row_at-strip-requires c =
-    row-there c.args.state (search rules) refl (omega arith) (omega (arith, c.requires.0))
+    let s = c.args.state in
+    subst (λ (p : Plan). StripThere p (c.loop-i.i + 1)) (sym c.lent-plan.ensures) (row-there s (search rules) refl (omega arith) (omega (arith, c.requires.0)))
 
 pub loop-i-preserved : goal.loop-i-preserved
 loop-i-preserved c =
-    goes_on c.args.state c.args.from c.args.strips c.args.buffer.now c.requires.1 _ _ _ c.loop-i.invariant _ _ (omega arith) (search rules)
-    (c.row_at-strip.ensures ∙ sym (row_of c.args.state refl (omega arith) (omega (arith, c.requires.0)))) c.put_strip-at.ensures
+    let s = c.args.state in
+    let e = c.row_at-strip.ensures ∙ ap (λ (p : Plan). strip_of (plan_point p) (plan_course p) (c.loop-i.i + 1)) c.lent-plan.ensures in
+    goes_on s c.args.from c.args.strips c.args.buffer.now c.requires.1 _ _ _ c.loop-i.invariant _ _ (omega arith) (search rules)
+    (e ∙ sym (row_of s refl (omega arith) (omega (arith, c.requires.0)))) c.put_strip-at.ensures

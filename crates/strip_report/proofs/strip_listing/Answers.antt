@@ -18,7 +18,7 @@ unfolding strip_listing_of version_of
 returns-then-loaded-eq0 c =
     let told =
     whole strip_listing_room (strip_listing_of c.args.file.now) c.args.buffer.now (holds c.args.file.now) {new = c.put_checked.new.buffer} {end = c.put_checked.result} (omega (arith, c.if-buffer-lt-STRIP_LISTING_ROOM.false)) (search rules)
-    (rw (← c.load-loaded.ensures.value, ← c.u16_at-version.ensures, strips-loaded c.u16_at-version.result c.load-loaded.result c.if-loaded-eq0.true, ← c.check-checked.ensures.0)
+    (rw (← c.load-loaded.ensures.value, ← c.u16_at-version.ensures, strips-loaded c.u16_at-version.result c.load-loaded.result c.if-loaded-eq0.true)
     c.put_checked.ensures) in
     record { value = told.0; buffer_after = told.1.0; upper_bound = told.1.1.0; strips_listed = told.1.1.1 }
 
