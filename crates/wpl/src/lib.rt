@@ -10,7 +10,7 @@ ghost use Rattle.plan.specs.Limits.{most_points};
 ghost use Rattle.plan.specs.Places.{plan_numbers, numbers_of, Filled};
 ghost use Rattle.plan.specs.Lent.{lent_plan};
 ghost use Rattle.manager.specs.declared.State.{State};
-ghost use Rattle.manager.specs.State.{state_of};
+ghost use Rattle.manager.specs.State.{with_progress};
 ghost use Rattle.records.specs.Kinds.{Parts, no_parts};
 ghost use Rattle.records.specs.Gather.{header_length, InRange};
 ghost use Rattle.records.specs.Held.{answer_of, numbers_in};
@@ -257,7 +257,7 @@ fn carried_since(mode: Mode) -> u32
 
 // Whether a write into so much room is refused, and why.
 fn write_refusal(plan: &Lent, progress: Progress, version: u32, room: usize) -> Result<(), Refusal>
-    ensures { result ≡ passed_of (write_of (state_of (lent_plan plan.now) progress) version room) }
+    ensures { result ≡ passed_of (write_of (with_progress (lent_plan plan.now) progress) version room) }
 {
     if !manager::valid(plan, progress) {
         return Err(refusals::failed(refusals::NO_STATE));
@@ -277,10 +277,10 @@ fn write_refusal(plan: &Lent, progress: Progress, version: u32, room: usize) -> 
 // The file of a lent plan at a version, into the first bytes of a buffer. Refused, nothing is written.
 pub fn write_from(plan: &Lent, progress: Progress, version: u32, file: &mut [u8]) -> Written
     requires { Filled (lent_plan plan.now) }
-    ensures value { result ≡ written_of (write_of (state_of (lent_plan plan.now) progress) version (length file.old)) }
-    ensures file_after { file.new ≡ buffer_of (write_of (state_of (lent_plan plan.now) progress) version (length file.old)) file.old }
-    ensures round_trip { RoundTrip (state_of (lent_plan plan.now) progress) }
-    ensures every_reader { EveryReader (state_of (lent_plan plan.now) progress) }
+    ensures value { result ≡ written_of (write_of (with_progress (lent_plan plan.now) progress) version (length file.old)) }
+    ensures file_after { file.new ≡ buffer_of (write_of (with_progress (lent_plan plan.now) progress) version (length file.old)) file.old }
+    ensures round_trip { RoundTrip (with_progress (lent_plan plan.now) progress) }
+    ensures every_reader { EveryReader (with_progress (lent_plan plan.now) progress) }
 {
     if let Err(found) = write_refusal(plan, progress, version, file.len()) {
         return Written {
