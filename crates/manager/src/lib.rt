@@ -17,7 +17,7 @@ ghost use Rattle.manager.specs.LastLeg.{LastLeg};
 ghost use Rattle.manager.specs.Flies.{Flies};
 
 use dubins::Ends;
-use guidance::{Command, Guidance};
+use guidance::{Command, Guidance, View};
 use plan::{Head, Lent, Mode, Plan};
 use plane::Point;
 use units::Fix;
@@ -37,7 +37,8 @@ pub struct State {
     pub progress: Progress,
 }
 
-// What a fix is answered. The refusal is a number of section 7, 0 for none.
+// What a fix is answered. The refusal is a number of section 7, 0 for none, and no Result: a refused fix answers its index and phase as well
+// (`refused_at`), and C gets all eight words.
 #[derive(Clone, Copy)]
 pub struct Answer {
     pub refusal: u8,
@@ -198,13 +199,13 @@ fn guide(plan: &Lent, progress: Progress, at: Point) -> Guidance
     match plan.head.mode {
         Mode::Lines => {
             if last {
-                return guidance::last_leg_guide(guidance::IN_SPACE, a, b, at);
+                return guidance::last_leg_guide(View::InSpace, a, b, at);
             }
             guidance::line_guide(a, b, plan.point_at(i), at)
         }
         Mode::Fillets => {
             if last {
-                return guidance::last_leg_guide(guidance::LEVEL, a, b, at);
+                return guidance::last_leg_guide(View::Level, a, b, at);
             }
             let radius = u64::from(plan.head.radius);
             guidance::fillet_guide(a, b, plan.point_at(i), radius, progress.phase, at)

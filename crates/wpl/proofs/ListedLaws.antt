@@ -18,7 +18,7 @@ use Rattle.conditions.proofs.ChooseLaws.{choose-true, choose-false}
 use Rattle.conditions.proofs.Bools.{by_bool, both_true, both-off, both-off-second}
 use Rattle.records.specs.Walk.{Walked, end, short, more, walk_by, walk}
 use Rattle.records.proofs.WalkLaws.{walk_none, walk-one, walk_more, walk-short}
-use Rattle.wpl.specs.Note.{wanted_of, left_of, note_in, noted_of, notes_in, listed}
+use Rattle.wpl.specs.Note.{wanted_of, left_of, note_in, noted_of, notes_in, records_seen}
 
 -- what is left behind two bytes
 pub behind : (s : List ℕ) → 2 ≤ length s → take (length s - 2) (drop 2 s) ≡ drop 2 s
@@ -26,28 +26,28 @@ behind [] h = absurd (omega arith)
 behind (k ∷ []) h = absurd (omega arith)
 behind (k ∷ n ∷ s) h = let e : length (k ∷ n ∷ s) - 2 ≡ length s = omega arith in rw e (take-length s)
 
-pub listed-few : (s : List ℕ) → length s < 2 → listed (walk s) ≡ []
-unfolding listed
+pub listed-few : (s : List ℕ) → length s < 2 → records_seen (walk s) ≡ []
+unfolding records_seen
 listed-few [] h = rw walk_none refl
 listed-few (k ∷ []) h = rw walk-one refl
 listed-few (k ∷ n ∷ s) h = absurd (omega arith)
 
-pub listed-cut : (s : List ℕ) → 2 ≤ length s → length (drop 2 s) < get_or s 1 0 → listed (walk s) ≡ []
-unfolding listed
+pub listed-cut : (s : List ℕ) → 2 ≤ length s → length (drop 2 s) < get_or s 1 0 → records_seen (walk s) ≡ []
+unfolding records_seen
 listed-cut [] h l = absurd (omega arith)
 listed-cut (k ∷ []) h l = absurd (omega arith)
 listed-cut (k ∷ n ∷ s) h l = rw (walk-short k n s l) refl
 
 pub listed-more : (s body rest : List ℕ) → 2 ≤ length s → get_or s 1 0 ≤ length (drop 2 s) → body ≡ take (get_or s 1 0) (drop 2 s) → rest ≡ drop (get_or s 1 0) (drop 2 s)
-    → listed (walk s) ≡ (get_or s 0 0, body) ∷ listed (walk rest)
-unfolding listed
+    → records_seen (walk s) ≡ (get_or s 0 0, body) ∷ records_seen (walk rest)
+unfolding records_seen
 listed-more [] body rest h l b r = absurd (omega arith)
 listed-more (k ∷ []) body rest h l b r = absurd (omega arith)
 listed-more (k ∷ n ∷ s) body rest h l b r = rw (walk_more k n s l, b, r) refl
 
 -- no more than there are bytes
-most-by : (m : ℕ) (s : List ℕ) → length (listed (walk_by m s)) ≤ length s
-unfolding walk_by listed
+most-by : (m : ℕ) (s : List ℕ) → length (records_seen (walk_by m s)) ≤ length s
+unfolding walk_by records_seen
 most-by zero s = omega arith
 most-by (suc m) [] = omega arith
 most-by (suc m) (k ∷ []) = omega arith
@@ -57,7 +57,7 @@ most-by (suc m) (k ∷ l ∷ s) =
     by_bool (leb l (length s)) (λ t. rw (choose-true _ (more k (take l s) (walk_by m (drop l s))) short t) (omega (arith, r, d)))
     (λ t. rw (choose-false _ (more k (take l s) (walk_by m (drop l s))) short t) (omega arith))
 
-pub listed-most : (s : List ℕ) → length (listed (walk s)) ≤ length s
+pub listed-most : (s : List ℕ) → length (records_seen (walk s)) ≤ length s
 unfolding walk
 listed-most s = most-by (length s) s
 
@@ -65,8 +65,8 @@ listed-most s = most-by (length s) s
 abbrev pub is_note : (ℕ × List ℕ) → Bool
 is_note r = eqb r.0 128
 
-pub notes-listed : (w : Walked) → length (filter is_note (listed w)) ≡ notes_in w
-unfolding listed notes_in noted_of choose
+pub notes-listed : (w : Walked) → length (filter is_note (records_seen w)) ≡ notes_in w
+unfolding records_seen notes_in noted_of choose
 notes-listed end = refl
 notes-listed short = refl
 notes-listed (more k b w) =
@@ -86,20 +86,20 @@ note-none (more k b w) =
 
 -- a note stands first
 at-note : (k : ℕ) (b : List ℕ) (w : Walked) → eqb k 128 ≡ true → (m : ℕ)
-    → ((i : ℕ) → note_in (i + 1) w ≡ unwrap_or (option_map (λ r. r.1) (slice_get (filter is_note (listed w)) i)) [])
-    → choose (wanted_of k (m + 1)) b (note_in (left_of k (m + 1)) w) ≡ unwrap_or (option_map (λ r. r.1) (slice_get ((k, b) ∷ filter is_note (listed w)) m)) []
+    → ((i : ℕ) → note_in (i + 1) w ≡ unwrap_or (option_map (λ r. r.1) (slice_get (filter is_note (records_seen w)) i)) [])
+    → choose (wanted_of k (m + 1)) b (note_in (left_of k (m + 1)) w) ≡ unwrap_or (option_map (λ r. r.1) (slice_get ((k, b) ∷ filter is_note (records_seen w)) m)) []
 unfolding wanted_of left_of
 at-note k b w t zero h = choose-true _ b _ (both_true _ _ t (eq-eqb 1 1 refl))
 at-note k b w t (suc m) h =
     choose-false _ b _ (both-off-second _ _ (ne_eqb _ _ (λ z. omega (arith, z))))
     ∙ ap (λ (n : ℕ). note_in n w) (choose-true {A = ℕ} _ _ _ t ∙ omega arith) ∙ h m
 
-pub note-listed : (w : Walked) (m : ℕ) → note_in (m + 1) w ≡ unwrap_or (option_map (λ r. r.1) (slice_get (filter is_note (listed w)) m)) []
-unfolding listed note_in wanted_of left_of
+pub note-listed : (w : Walked) (m : ℕ) → note_in (m + 1) w ≡ unwrap_or (option_map (λ r. r.1) (slice_get (filter is_note (records_seen w)) m)) []
+unfolding records_seen note_in wanted_of left_of
 note-listed end m = refl
 note-listed short m = refl
 note-listed (more k b w) m =
-    let l = filter is_note (listed w) in
+    let l = filter is_note (records_seen w) in
     let e : (c : Bool) → eqb k 128 ≡ c → unwrap_or (option_map (λ r. r.1) (slice_get (cond c ((k, b) ∷ l) l) m)) [] ≡ unwrap_or (option_map (λ r. r.1) (slice_get (cond (eqb k 128) ((k, b) ∷ l) l) m)) []
     = λ c t. ap (λ (x : Bool). unwrap_or (option_map (λ r. r.1) (slice_get (cond x ((k, b) ∷ l) l) m)) []) (sym t) in
     by_bool (eqb k 128) (λ t. at-note k b w t m (note-listed w) ∙ e true t)

@@ -46,7 +46,7 @@ pub record Numbered (f : List ℕ) : Type 0 where
 abbrev pub record_seen : Record → ℕ × List ℕ
 record_seen r = (r.kind, r.body.now)
 
-unfoldable pub listed : Walked → List (ℕ × List ℕ)
-listed end = []
-listed short = []
-listed (more k b w) = (k, b) ∷ listed w
+unfoldable pub records_seen : Walked → List (ℕ × List ℕ)
+records_seen end = []
+records_seen short = []
+records_seen (more k b w) = (k, b) ∷ records_seen w

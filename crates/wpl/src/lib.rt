@@ -22,7 +22,7 @@ ghost use Rattle.wpl.specs.Write.{carried_since, write_of, written_of, buffer_of
 ghost use Rattle.wpl.specs.RoundTrip.{RoundTrip, EveryReader};
 ghost use Rattle.wpl.specs.Starts.{Starts};
 ghost use Rattle.wpl.specs.Order.{Refused, load_order, write_order};
-ghost use Rattle.wpl.specs.Note.{note_in, note_of, notes_in, notes_of, record_seen, listed, Numbered};
+ghost use Rattle.wpl.specs.Note.{note_in, note_of, notes_in, notes_of, record_seen, records_seen, Numbered};
 
 use manager::{Progress, State};
 use plan::{Head, Lent, Mode, Plan};
@@ -80,9 +80,9 @@ struct Records<'a>(&'a [u8]);
 impl<'a> Iterator for Records<'a> {
     type Item = Record<'a>;
 
-    ghost next_gives = { YieldsFirstBy record_seen (λ s. listed (walk s.0.now)) };
+    ghost next_gives = { YieldsFirstBy record_seen (λ s. records_seen (walk s.0.now)) };
 
-    ghost remaining = { item_count (λ s. listed (walk s.0.now)) };
+    ghost remaining = { item_count (λ s. records_seen (walk s.0.now)) };
 
     fn next(&mut self) -> Option<Record<'a>> {
         let [kind, size, rest @ ..] = self.0 else {

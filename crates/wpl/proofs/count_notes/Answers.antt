@@ -7,7 +7,7 @@ use Rattle.wpl.specs.Load.{records_of}
 use Rattle.std.proofs.Common.{rules, tests}
 use Rattle.std.proofs.lemmas.Iterator.Consumers.{count_from_yields_List, YieldsList-from_filter, YieldsList-from_first, YieldsList-at}
 use Rattle.records.specs.Walk.{walk}
-use Rattle.wpl.specs.Note.{record_seen, listed}
+use Rattle.wpl.specs.Note.{record_seen, records_seen}
 use Rattle.wpl.proofs.ListedLaws.{is_note, listed-most, notes-listed}
 use Rattle.wpl.proofs.count_notes.Goals as goal
 
@@ -17,8 +17,8 @@ count-requires-clause-fits c =
     let f = c.args.file.now in
     inl (omega (
       arith,
-      ap (λ r. length (listed (walk r.0.now))) c.filter.ensures.source,
-      ap (λ w. length (listed w)) c.records_in.ensures,
+      ap (λ r. length (records_seen (walk r.0.now))) c.filter.ensures.source,
+      ap (λ w. length (records_seen w)) c.records_in.ensures,
       listed-most (drop 11 f),
       length-drop 11 f,
     ))
@@ -26,5 +26,5 @@ count-requires-clause-fits c =
 pub returns : goal.returns
 returns c =
     count_from_yields_List c.filter.result _ c.count.ensures.ran
-    (YieldsList-from_filter _ is_note (YieldsList-at c.filter.ensures.source (YieldsList-from_first record_seen (λ s. listed (walk s.0.now)) _ (ap listed c.records_in.ensures))) c.filter.ensures.closure (λ x r q k. search (rules, tests)))
+    (YieldsList-from_filter _ is_note (YieldsList-at c.filter.ensures.source (YieldsList-from_first record_seen (λ s. records_seen (walk s.0.now)) _ (ap records_seen c.records_in.ensures))) c.filter.ensures.closure (λ x r q k. search (rules, tests)))
     ∙ notes-listed _

@@ -7,7 +7,7 @@ use Rattle.std.proofs.Common.{rules, tests, unwrap_or, option_map}
 use Rattle.std.proofs.lemmas.Iterator.Consumers.{nth_from_yields_List, YieldsList-from_filter, YieldsList-from_first, YieldsList-at}
 use Rattle.records.specs.Walk.{walk}
 use Rattle.wpl.specs.Load.{records_of}
-use Rattle.wpl.specs.Note.{record_seen, listed, note_in}
+use Rattle.wpl.specs.Note.{record_seen, records_seen, note_in}
 use Rattle.wpl.proofs.ListedLaws.{is_note, note-none, note-listed}
 use Rattle.wpl.proofs.find_note.Goals as goal
 use Rattle.wpl.proofs.find_note.Goals.{After-nth}
@@ -19,7 +19,7 @@ found c =
     let n : c.args.number ≡ c.in_ok-checked_sub.field-0 + 1 = omega (arith, c.in_ok-checked_sub.ensures {u = tt}) in
     ap (λ (k : ℕ). note_in k w) n ∙ note-listed w _
     ∙ ap (λ o. unwrap_or (option_map (λ r. r.1) o) []) (sym (nth_from_yields_List c.nth.result c.nth.new.self _ c.nth.ensures.ran
-    (YieldsList-from_filter _ is_note (YieldsList-at c.filter.ensures.source (YieldsList-from_first record_seen (λ s. listed (walk s.0.now)) _ (ap listed c.records_in.ensures))) c.filter.ensures.closure (λ x r q k. search (rules, tests)))))
+    (YieldsList-from_filter _ is_note (YieldsList-at c.filter.ensures.source (YieldsList-from_first record_seen (λ s. records_seen (walk s.0.now)) _ (ap records_seen c.records_in.ensures))) c.filter.ensures.closure (λ x r q k. search (rules, tests)))))
 
 pub returns-in_err-checked_sub : goal.returns-in_err-checked_sub
 returns-in_err-checked_sub c =
