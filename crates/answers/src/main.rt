@@ -96,12 +96,7 @@ fn show_written(rt: HostRuntime, written: Written, room: &[u8]) -> Result<(), Wr
     }
 }
 
-fn show_write(
-    rt: HostRuntime,
-    file: &[u8],
-    version: u32,
-    room: usize,
-) -> Result<(), WriteFailed> {
+fn show_write(rt: HostRuntime, file: &[u8], version: u32, room: usize) -> Result<(), WriteFailed> {
     let loaded = wpl::load(file, records::NEWEST);
     let mut space = [BLANK; MOST_ROOM];
     if room <= MOST_ROOM {

@@ -22,7 +22,7 @@ use Rattle.manager.specs.declared.State.{State}
 use Rattle.manager.specs.declared.Progress.{Progress}
 use Rattle.manager.specs.declared.Decided.{Decided}
 use Rattle.manager.specs.declared.Stepped.{Stepped}
-use Rattle.manager.specs.State.{state_of}
+use Rattle.manager.specs.State.{with_progress}
 use Rattle.manager.specs.Step.{stepped_by, step_of}
 use Rattle.manager.proofs.StepLaws.{step-refused}
 use Rattle.c_answer.specs.Words.{answer_words, command_numbers}
@@ -51,9 +51,9 @@ module _ (state : List ℤ) (answer : List ℕ) (command : List Float) where
 module _ (ws : List ℤ) where
   -- what is decided of the parts that are lent
   pub decided-there : (serial : ℕ) (fix : Fix) {plan : Plan} {p : Progress} {d : Decided} → plan ≡ plan_at ws → p ≡ progress_at ws
-      → stepped_by plan d ≡ step_of (state_of plan p) serial fix → stepped_by (plan_at ws) d ≡ step_of (state_at ws) serial fix
+      → stepped_by plan d ≡ step_of (with_progress plan p) serial fix → stepped_by (plan_at ws) d ≡ step_of (state_at ws) serial fix
   decided-there serial fix {d = d} e f k =
-      ap (λ (plan : Plan). stepped_by plan d) (sym e) ∙ k ∙ (λ t. step_of (state_of (e t) (f t)) serial fix)
+      ap (λ (plan : Plan). stepped_by plan d) (sym e) ∙ k ∙ (λ t. step_of (with_progress (e t) (f t)) serial fix)
 
 -- ---- fix
 module _ (b : Bool) (ws : List ℤ) (serial : ℕ) (fix : Fix) (answer : List ℕ) (command : List Float) where

@@ -12,7 +12,7 @@ use Rattle.refusals.specs.Outcome.{good, refused}
 use Rattle.refusals.proofs.OutcomeLaws.{check-true, check-false}
 use Rattle.plan.specs.declared.Plan.{Plan}
 use Rattle.manager.specs.declared.Progress.{Progress}
-use Rattle.manager.specs.State.{state_of}
+use Rattle.manager.specs.State.{with_progress}
 use Rattle.c_state.specs.Stored.{state_length, progress_at, plan_at, state_at, holds_state, taken_of, pair_fits}
 
 pub pair-means : (s a least : ℕ) → pair_fits s a least ≡ true → (state_length ≤ s) × (least ≤ a)
@@ -28,5 +28,5 @@ module _ (ws : List ℤ) where
   unfolding taken_of
   not-held h = check-false _ no_state _ h
 
-  pub state-there : {plan : Plan} {p : Progress} → plan ≡ plan_at ws → p ≡ progress_at ws → state_of plan p ≡ state_at ws
-  state-there e f = λ t. state_of (e t) (f t)
+  pub state-there : {plan : Plan} {p : Progress} → plan ≡ plan_at ws → p ≡ progress_at ws → with_progress plan p ≡ state_at ws
+  state-there e f = λ t. with_progress (e t) (f t)

@@ -112,6 +112,7 @@ pub fn fill<R: Read>(
     ensures count_in_bounds { IfErr result (λ e. e.count < length room.old) }
 {
     let mut done: usize = 0;
+    // No `for`: how many bytes a read brings is known behind it.
     while done < room.len() {
         match read_behind(reader, done, room) {
             Ok(0) => break,

@@ -9,7 +9,7 @@ use Rattle.conditions.specs.Choose.{choose}
 use Rattle.conditions.proofs.Bools.{by_bool}
 use Rattle.refusals.specs.Numbers.{no_state}
 use Rattle.strips.specs.declared.Fault.{Fault}
-use Rattle.strips.specs.Check.{refused_check, check_of, answered, numbered, no_strip, strip_row}
+use Rattle.strips.specs.Check.{refused_check, check_of, checked_as, numbered, no_strip, strip_row}
 use Rattle.strips.proofs.CheckLaws.{told}
 use Rattle.c_state.specs.Stored.{state_at, holds_state, taken_of}
 use Rattle.c_state.proofs.TakenLaws.{held, not-held}
@@ -33,9 +33,9 @@ module _ (ws : List ℤ) where
   row-unheld number h = rw (not-held ws h)
 
   -- an answer says all numbers of the check
-  pub told_in : {r : Result ℕ Fault} → r ≡ answered (check_in (taken_of ws)) → numbered r ≡ check_in (taken_of ws)
-  unfolding answered choose
+  pub told_in : {r : Result ℕ Fault} → r ≡ checked_as (check_in (taken_of ws)) → numbered r ≡ check_in (taken_of ws)
+  unfolding checked_as choose
   told_in e =
       by_bool (holds_state ws)
-      (λ h. let k = check-held h in told (state_at ws) (e ∙ ap answered k) ∙ sym k)
-      (λ h. let k = check-unheld h in ap numbered (e ∙ ap answered k) ∙ sym k)
+      (λ h. let k = check-held h in told (state_at ws) (e ∙ ap checked_as k) ∙ sym k)
+      (λ h. let k = check-unheld h in ap numbered (e ∙ ap checked_as k) ∙ sym k)

@@ -6,7 +6,7 @@ ghost use Rattle.std.specs.Prelude.{◌≡◌, [], ◌∷◌, ◌⊎◌, ◌≤�
 ghost use Rattle.refusals.specs.Numbers.{not_strips};
 ghost use Rattle.c_answer.specs.Words.{interface};
 ghost use Rattle.c_state.specs.Stored.{state_length, taken_of};
-ghost use Rattle.strips.specs.Check.{answered, numbered};
+ghost use Rattle.strips.specs.Check.{checked_as, numbered};
 ghost use Rattle.wpl.specs.Load.{load_of, loaded_of};
 ghost use Rattle.wpl.specs.Note.{note_of, notes_of, Numbered};
 ghost use Rattle.desk.specs.Calls.{call_result, words_fit, words_answer, most_note, note_fits, note_buffer, note_answer, check_words, check_in, strips_words, strips_fit, strip_row_in, strip_words, strip_fits};
@@ -102,7 +102,7 @@ pub fn farnkuppel_notes(file: &[u8], answer: &mut [u32]) -> u32
 // What the words of a state say of strips: the check, and the row of a strip by its number from 1. Their blocks are lent as they lie.
 fn told_at(words: &[i32], number: usize) -> Told
     requires { state_length ≤ length words.now }
-    ensures checked_value { result.checked ≡ answered (check_in (taken_of words.now)) }
+    ensures checked_value { result.checked ≡ checked_as (check_in (taken_of words.now)) }
     ensures strip_value { result.strip ≡ strip_row_in (taken_of words.now) number }
 {
     if c_state::holds_state(words) {

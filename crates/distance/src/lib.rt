@@ -9,7 +9,7 @@ ghost use Rattle.plan.specs.Limits.{most_radius};
 ghost use Rattle.plan.specs.Places.{plan_point};
 ghost use Rattle.plan.specs.Stands.{IsLevelLeg};
 ghost use Rattle.plan.specs.Lent.{lent_plan, PointPlaced};
-ghost use Rattle.manager.specs.State.{state_of};
+ghost use Rattle.manager.specs.State.{with_progress};
 ghost use Rattle.distance.specs.Lengths.{level_length, plan_length};
 ghost use Rattle.distance.specs.Table.{distances_of, table_of, distance_of, distance_by, Summary, OneTable, AtIndex};
 ghost use Rattle.distance.specs.Pass.{Sound, CornerThere, Rounded, AddedUp, told_from};
@@ -146,8 +146,8 @@ fn measure(plan: &Lent, place: usize, table: &mut [u32]) -> u32
 
 // The table of a plan that is lent and how far it is flown. Refused, nothing is written.
 pub fn distances_from(plan: &Lent, progress: Progress, table: &mut [u32]) -> Result<(), Refusal>
-    ensures value { result ≡ passed_of (distances_of (state_of (lent_plan plan.now) progress) (length table.old)) }
-    ensures table_after { table.new ≡ table_of (distances_of (state_of (lent_plan plan.now) progress) (length table.old)) table.old }
+    ensures value { result ≡ passed_of (distances_of (with_progress (lent_plan plan.now) progress) (length table.old)) }
+    ensures table_after { table.new ≡ table_of (distances_of (with_progress (lent_plan plan.now) progress) (length table.old)) table.old }
 {
     if !manager::valid(plan, progress) {
         return Err(refusals::failed(refusals::NO_STATE));
@@ -161,7 +161,7 @@ pub fn distances_from(plan: &Lent, progress: Progress, table: &mut [u32]) -> Res
 
 // What is left of a plan that is lent from the index on to which it is flown, in decimetres.
 pub fn distance_from(plan: &Lent, progress: Progress) -> Result<u32, Refusal>
-    ensures { result ≡ distance_by (distance_of (state_of (lent_plan plan.now) progress)) }
+    ensures { result ≡ distance_by (distance_of (with_progress (lent_plan plan.now) progress)) }
 {
     if !manager::valid(plan, progress) {
         return Err(refusals::failed(refusals::NO_STATE));

@@ -31,6 +31,7 @@ use Rattle.dubins.specs.Choice.{case_path, shortest_of, Wins, IsShortest}
 use Rattle.dubins.proofs.ShortestLaws.{shortest-is}
 use Rattle.guidance.specs.declared.Guidance.{Guidance}
 use Rattle.guidance.specs.Commands.{place_metres, leg_metres, line_command, course_command, circle_command, PlainMetres, IsCommand, CommandMeans}
+use Rattle.guidance.specs.declared.View.{View}
 use Rattle.guidance.specs.Guide.{leg_guide, line_guide, circle_guide, fillet_line, fillet_circle, fillet_guide, last_leg_guide, straight_guide, dubins_guide}
 
 pub command-means : CommandMeans
@@ -78,9 +79,9 @@ module _ (a b : Point) (h : InArea a) (k : InArea b) where
   unfolding line_guide
   line-guide-command c p = leg-command _ p
 
-  pub last-leg-command : (level : Bool) (p : Point) → IsCommand (last_leg_guide level a b p).command
+  pub last-leg-command : (view : View) (p : Point) → IsCommand (last_leg_guide view a b p).command
   unfolding last_leg_guide
-  last-leg-command level p = leg-command _ p
+  last-leg-command view p = leg-command _ p
 
 either : (t : Bool) (g h : Guidance) → IsCommand g.command → IsCommand h.command → IsCommand (choose t g h).command
 unfolding choose

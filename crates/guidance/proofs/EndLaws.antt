@@ -12,6 +12,8 @@ use Rattle.plane.specs.declared.Leg.{Leg}
 use Rattle.plane.specs.Area.{leg_of, level_of}
 use Rattle.plane.specs.Level.{minus, dot_of, level_leg_of}
 use Rattle.plane.specs.Half.{dot3_of}
+use Rattle.guidance.specs.declared.View.{View}
+use Rattle.guidance.specs.declared.View.TheVariants.{Level, InSpace}
 use Rattle.guidance.specs.Guide.{from_of, past_of, reached_of, leg_ended, end_passed}
 
 -- (z − z)·y
@@ -27,10 +29,10 @@ nothing : (p : Point) (l : Leg) → dot3_of (leg_of p p) l ≡ pos 0
 unfolding dot3_of leg_of
 nothing p l = λ i. nothing-times p.north l.north i +ℤ nothing-times p.east l.east i +ℤ nothing-times p.down l.down i
 
-pub ended-there : (level : Bool) (a b : Point) → leg_ended level a b b ≡ true
-unfolding leg_ended choose past_of
-ended-there true a b = ap (le_z (pos 0)) (level-nothing b (level_leg_of a b))
-ended-there false a b = ap (le_z (pos 0)) (nothing b (leg_of a b))
+pub ended-there : (view : View) (a b : Point) → leg_ended view a b b ≡ true
+unfolding leg_ended past_of
+ended-there Level a b = ap (le_z (pos 0)) (level-nothing b (level_leg_of a b))
+ended-there InSpace a b = ap (le_z (pos 0)) (nothing b (leg_of a b))
 
 pub phase-5-there : (end : Point) (χe : ℕ) → end_passed end χe 5 end ≡ true
 unfolding end_passed choose reached_of

@@ -16,6 +16,8 @@ use Rattle.dubins.specs.declared.Path.{Path}
 use Rattle.dubins.specs.Cases.{starts_right, ends_right}
 use Rattle.heading.specs.Heading.{line_heading, circle_heading}
 use Rattle.guidance.specs.declared.Guidance.{Guidance}
+use Rattle.guidance.specs.declared.View.{View}
+use Rattle.guidance.specs.declared.View.TheVariants.{Level, InSpace}
 use Rattle.guidance.specs.Commands.{line_command, course_command, circle_command}
 
 -- p less a place, in north and east
@@ -56,12 +58,13 @@ unfoldable pub fillet_guide : Point → Point → Point → ℕ → ℕ → Poin
 fillet_guide a b c R phase p = choose (eqb phase 1) (fillet_line a b (corner_of a b c R) p) (fillet_circle b c R (corner_of a b c R) p)
 
 -- 13.3: the last leg, from a to b, is over at b and beyond it: level for fillets, in three dimensions for lines
-unfoldable pub leg_ended : Bool → Point → Point → Point → Bool
-leg_ended level a b p = choose level (past_of (level_of b) (level_leg_of a b) p) (le_z (pos 0) (dot3_of (leg_of b p) (leg_of a b)))
+unfoldable pub leg_ended : View → Point → Point → Point → Bool
+leg_ended Level a b p = past_of (level_of b) (level_leg_of a b) p
+leg_ended InSpace a b p = le_z (pos 0) (dot3_of (leg_of b p) (leg_of a b))
 
 -- until then, and after it, the leg's own line is commanded
-unfoldable pub last_leg_guide : Bool → Point → Point → Point → Guidance
-last_leg_guide level a b p = leg_guide a b (leg_ended level a b p) p
+unfoldable pub last_leg_guide : View → Point → Point → Point → Guidance
+last_leg_guide view a b p = leg_guide a b (leg_ended view a b p) p
 
 -- 12.9: at z or beyond it along D(k), and at z or short of it
 unfoldable pub reached_of : Vector → ℕ → Point → Bool

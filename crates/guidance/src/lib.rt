@@ -23,7 +23,8 @@ pub struct Metres {
     pub down: f32,
 }
 
-// What the autopilot is to follow. Sense is +1 for clockwise and -1 for the other way; Nothing where a fix is refused.
+// What the autopilot is to follow. Sense is +1 for clockwise and -1 for the other way; Nothing where a fix is refused, a case and no Option of the
+// others, as `Flies` and `command_numbers` have three kinds.
 #[derive(Clone, Copy)]
 pub enum Command {
     Line {
@@ -47,9 +48,11 @@ pub struct Guidance {
 }
 
 // How the end of the last leg is looked at: in north and east, or in three dimensions.
-pub const LEVEL: bool = true;
-
-pub const IN_SPACE: bool = false;
+#[derive(Clone, Copy, PartialEq, Eq)]
+pub enum View {
+    Level,
+    InSpace,
+}
 
 // A level place at the height of a point.
 fn place_metres(v: Vector, p: Point) -> Metres
@@ -223,7 +226,7 @@ fn fillet_circle(b: Point, c: Point, radius: u64, corner: Corner, at: Point) -> 
     circle_guide(centre, b, radius, corner.right, passed, at)
 }
 
-// Fillets: the corner at b between a and c, in phase 1 or 2.
+// Fillets: the corner at b between a and c, in phase 1 or 2. Phases are numbers, as `fillet_guide` takes every one, and C gives them in a word.
 pub fn fillet_guide(a: Point, b: Point, c: Point, radius: u64, phase: u8, at: Point) -> Guidance
     requires { (InArea a × (InArea b × InArea c)) × (((radius ≤ 10000) × (corner_turn a b c ≤ 1792)) × InArea at) }
     ensures { (result ≡ fillet_guide a b c radius phase at) × (result.heading < 4096) }
@@ -237,23 +240,22 @@ pub fn fillet_guide(a: Point, b: Point, c: Point, radius: u64, phase: u8, at: Po
 }
 
 // Whether the position is at b or beyond it along the leg from a.
-fn leg_ended(level: bool, a: Point, b: Point, at: Point) -> bool
+fn leg_ended(view: View, a: Point, b: Point, at: Point) -> bool
     requires { InArea a × (InArea b × InArea at) }
-    ensures { result ≡ leg_ended level a b at }
+    ensures { result ≡ leg_ended view a b at }
 {
-    if level {
-        past(plane::level(b), plane::level_leg(a, b), at)
-    } else {
-        0 <= plane::dot3(plane::leg_between(b, at), plane::leg_between(a, b))
+    match view {
+        View::Level => past(plane::level(b), plane::level_leg(a, b), at),
+        View::InSpace => 0 <= plane::dot3(plane::leg_between(b, at), plane::leg_between(a, b)),
     }
 }
 
 // The last leg, from a to b, until its end.
-pub fn last_leg_guide(level: bool, a: Point, b: Point, at: Point) -> Guidance
+pub fn last_leg_guide(view: View, a: Point, b: Point, at: Point) -> Guidance
     requires { InArea a × (InArea b × InArea at) }
-    ensures { (result ≡ last_leg_guide level a b at) × (result.heading < 4096) }
+    ensures { (result ≡ last_leg_guide view a b at) × (result.heading < 4096) }
 {
-    leg_guide(a, b, leg_ended(level, a, b, at), at)
+    leg_guide(a, b, leg_ended(view, a, b, at), at)
 }
 
 // The straight part of a Dubins leg, from z1 along its course until z2, at the height of the start.

@@ -15,6 +15,8 @@ use Rattle.units.specs.Position.{position_of}
 use Rattle.std.proofs.Common.{Option}
 use Rattle.dubins.specs.declared.Path.{Path}
 use Rattle.dubins.specs.Choice.{shortest_of}
+use Rattle.guidance.specs.declared.View.{View}
+use Rattle.guidance.specs.declared.View.TheVariants.{Level, InSpace}
 use Rattle.guidance.specs.Guide.{leg_guide, last_leg_guide, circle_guide, dubins_guide}
 use Rattle.guidance.proofs.EndLaws.{ended-there, phase-5-there}
 use Rattle.plan.specs.declared.Mode.{Mode}
@@ -56,9 +58,9 @@ end-point : (plan : Plan) (i : ℕ) → on_last_leg plan.head.count i ≡ true �
 end-point plan i leg = ap (λ (k : ℕ). plan_point plan (k - 1)) (last-is plan.head.count ∙ sym (on-last plan.head.count i leg))
 
 -- ---- a position at the end of the leg that is flown ends its last phase, in each mode
-leg-passed : (level : Bool) (a b : Point) → (last_leg_guide level a b b).passed ≡ true
+leg-passed : (view : View) (a b : Point) → (last_leg_guide view a b b).passed ≡ true
 unfolding last_leg_guide leg_guide
-leg-passed level a b = ended-there level a b
+leg-passed view a b = ended-there view a b
 
 path-passed : (s : State) (v : Valid s) → s.plan.head.mode ≡ Dubins
     → (path_guide (ends_of s.plan s.progress.index) 5 (plan_point s.plan (s.progress.index - 1)) (shortest_of (ends_of s.plan s.progress.index))).passed ≡ true
@@ -92,7 +94,7 @@ module _ (s : State) (h : valid_of s ≡ true) (e : ending s ≡ true) where
   passed-there : (guide_here s end).passed ≡ true
   passed-there =
       let last = leg in
-      by_mode s.plan.head.mode (λ m. rw lines-last (leg-passed false start end)) (λ m. rw fillets-last (leg-passed true start end))
+      by_mode s.plan.head.mode (λ m. rw lines-last (leg-passed InSpace start end)) (λ m. rw fillets-last (leg-passed Level start end))
       (λ m.
       let five : s.progress.phase ≡ 5 = end-phase _ _ _ e ∙ rw (m, dubins-phase) in
       rw (dubins-everywhere, five) (path-passed s (valid-means s h) m))

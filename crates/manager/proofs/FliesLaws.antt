@@ -16,6 +16,7 @@ use Rattle.std.proofs.Common.{Option}
 use Rattle.dubins.specs.declared.Path.{Path}
 use Rattle.guidance.specs.declared.Guidance.{Guidance}
 use Rattle.guidance.specs.Commands.{PlainCommand, HasCommand, IsCommand}
+use Rattle.guidance.specs.declared.View.TheVariants.{Level, InSpace}
 use Rattle.guidance.proofs.CommandLaws.{line-guide-command, last-leg-command, fillet-command, dubins-command}
 use Rattle.plan.specs.declared.Mode.{Mode}
 use Rattle.plan.specs.declared.Mode.TheVariants.{Lines, Fillets, Dubins}
@@ -48,9 +49,9 @@ module _ (s : State) (v : Valid s) (p : Point) where
   command-by : (m : Mode) → s.plan.head.mode ≡ m → IsCommand (guide_of m s.plan i s.progress.phase p).command
   unfolding guide_of path_guide
   command-by Lines e =
-      either (on_last_leg s.plan.head.count i) _ _ (λ t. last-leg-command _ _ start-in end-in false p) (λ t. line-guide-command _ _ start-in end-in _ p)
+      either (on_last_leg s.plan.head.count i) _ _ (λ t. last-leg-command _ _ start-in end-in InSpace p) (λ t. line-guide-command _ _ start-in end-in _ p)
   command-by Fillets e =
-      either (on_last_leg s.plan.head.count i) _ _ (λ t. last-leg-command _ _ start-in end-in true p)
+      either (on_last_leg s.plan.head.count i) _ _ (λ t. last-leg-command _ _ start-in end-in Level p)
       (λ t.
       let corner = fillets-corner s v e t in
       fillet-command _ _ _ _ _ p start-in end-in corner.0 corner.1)

@@ -29,8 +29,8 @@ abbrev pub start_of : Plan → State
 start_of p = record { plan = p; progress = first_progress }
 
 -- the state of a plan and how far it is flown
-abbrev pub state_of : Plan → Progress → State
-state_of plan p = record { plan = plan; progress = p }
+abbrev pub with_progress : Plan → Progress → State
+with_progress plan p = record { plan = plan; progress = p }
 
 -- 13.1: the last index of n points, in every mode
 unfoldable pub last_index : ℕ → ℕ

@@ -12,6 +12,7 @@ use Rattle.dubins.specs.Choice.{shortest_of}
 use Rattle.guidance.specs.declared.Guidance.{Guidance}
 use Rattle.guidance.specs.declared.Command.{Command}
 use Rattle.guidance.specs.declared.Command.TheVariants.{Nothing}
+use Rattle.guidance.specs.declared.View.TheVariants.{Level, InSpace}
 use Rattle.guidance.specs.Guide.{line_guide, fillet_guide, last_leg_guide, dubins_guide}
 use Rattle.plan.specs.declared.Mode.{Mode}
 use Rattle.plan.specs.declared.Mode.TheVariants.{Lines, Fillets, Dubins}
@@ -37,10 +38,10 @@ path_guide ends phase p None = record { command = Nothing; heading = 0; passed =
 -- of their own there, fillets in north and east.
 unfoldable pub guide_of : Mode → Plan → ℕ → ℕ → Point → Guidance
 guide_of Lines plan i phase p =
-    choose (on_last_leg plan.head.count i) (last_leg_guide false (plan_point plan (i - 2)) (plan_point plan (i - 1)) p)
+    choose (on_last_leg plan.head.count i) (last_leg_guide InSpace (plan_point plan (i - 2)) (plan_point plan (i - 1)) p)
     (line_guide (plan_point plan (i - 2)) (plan_point plan (i - 1)) (plan_point plan i) p)
 guide_of Fillets plan i phase p =
-    choose (on_last_leg plan.head.count i) (last_leg_guide true (plan_point plan (i - 2)) (plan_point plan (i - 1)) p)
+    choose (on_last_leg plan.head.count i) (last_leg_guide Level (plan_point plan (i - 2)) (plan_point plan (i - 1)) p)
     (fillet_guide (plan_point plan (i - 2)) (plan_point plan (i - 1)) (plan_point plan i) plan.head.radius phase p)
 guide_of Dubins plan i phase p = path_guide (ends_of plan i) phase p (shortest_of (ends_of plan i))
 

@@ -10,14 +10,14 @@ ghost use Rattle.dubins.specs.Choice.{shortest_of};
 ghost use Rattle.plan.specs.Limits.{most_points};
 ghost use Rattle.plan.specs.Stands.{stands_of};
 ghost use Rattle.plan.specs.Lent.{lent_plan};
-ghost use Rattle.manager.specs.State.{empty_state, first_progress, state_of, last_index, on_last_leg, last_phase, at_end, index_fits, phase_fits, end_fits, placed_of, valid_of, Valid};
+ghost use Rattle.manager.specs.State.{empty_state, first_progress, with_progress, last_index, on_last_leg, last_phase, at_end, index_fits, phase_fits, end_fits, placed_of, valid_of, Valid};
 ghost use Rattle.manager.specs.Step.{path_guide, guide_here, next_of, stepped_by, answering, refused_at, refuse_of, answered, moved_of, step_of};
 ghost use Rattle.manager.specs.Finish.{Finishes};
 ghost use Rattle.manager.specs.LastLeg.{LastLeg};
 ghost use Rattle.manager.specs.Flies.{Flies};
 
 use dubins::Ends;
-use guidance::{Command, Guidance};
+use guidance::{Command, Guidance, View};
 use plan::{Head, Lent, Mode, Plan};
 use plane::Point;
 use units::Fix;
@@ -37,7 +37,8 @@ pub struct State {
     pub progress: Progress,
 }
 
-// What a fix is answered. The refusal is a number of section 7, 0 for none.
+// What a fix is answered. The refusal is a number of section 7, 0 for none, and no Result: a refused fix answers its index and phase as well
+// (`refused_at`), and C gets all eight words.
 #[derive(Clone, Copy)]
 pub struct Answer {
     pub refusal: u8,
@@ -166,7 +167,7 @@ fn placed(head: Head, p: Progress) -> bool
 
 // Whether a state, its plan lent, is not refused 14.
 pub fn valid(plan: &Lent, progress: Progress) -> bool
-    ensures { (result ≡ valid_of (state_of (lent_plan plan.now) progress)) × (result ≡ true → Valid (state_of (lent_plan plan.now) progress)) }
+    ensures { (result ≡ valid_of (with_progress (lent_plan plan.now) progress)) × (result ≡ true → Valid (with_progress (lent_plan plan.now) progress)) }
 {
     plan.stands() && placed(plan.head, progress)
 }
@@ -188,8 +189,8 @@ fn path_guide(ends: Ends, phase: u8, at: Point) -> Guidance
 
 // The guidance at an index and phase. Point i lies at place i - 1. Unless the leg is the last one a point comes behind it.
 fn guide(plan: &Lent, progress: Progress, at: Point) -> Guidance
-    requires { Valid (state_of (lent_plan plan.now) progress) × InArea at }
-    ensures { (result ≡ guide_here (state_of (lent_plan plan.now) progress) at) × (result.heading < 4096) }
+    requires { Valid (with_progress (lent_plan plan.now) progress) × InArea at }
+    ensures { (result ≡ guide_here (with_progress (lent_plan plan.now) progress) at) × (result.heading < 4096) }
 {
     let i = progress.index;
     let last = on_last_leg(plan.head.count, i);
@@ -198,13 +199,13 @@ fn guide(plan: &Lent, progress: Progress, at: Point) -> Guidance
     match plan.head.mode {
         Mode::Lines => {
             if last {
-                return guidance::last_leg_guide(guidance::IN_SPACE, a, b, at);
+                return guidance::last_leg_guide(View::InSpace, a, b, at);
             }
             guidance::line_guide(a, b, plan.point_at(i), at)
         }
         Mode::Fillets => {
             if last {
-                return guidance::last_leg_guide(guidance::LEVEL, a, b, at);
+                return guidance::last_leg_guide(View::Level, a, b, at);
             }
             let radius = u64::from(plan.head.radius);
             guidance::fillet_guide(a, b, plan.point_at(i), radius, progress.phase, at)
@@ -273,8 +274,8 @@ fn accept(g: Guidance, progress: Progress) -> Decided
 
 // A fix that no number refuses, at its position.
 fn moved(plan: &Lent, progress: Progress, at: Point) -> Decided
-    requires { Valid (state_of (lent_plan plan.now) progress) × InArea at }
-    ensures { stepped_by (lent_plan plan.now) result ≡ moved_of (state_of (lent_plan plan.now) progress) at }
+    requires { Valid (with_progress (lent_plan plan.now) progress) × InArea at }
+    ensures { stepped_by (lent_plan plan.now) result ≡ moved_of (with_progress (lent_plan plan.now) progress) at }
 {
     let g = guide(plan, progress, at);
     accept(g, next(plan.head, progress, g.passed))
@@ -282,7 +283,7 @@ fn moved(plan: &Lent, progress: Progress, at: Point) -> Decided
 
 // One fix: the command of the index and phase before it, and how far the plan is flown after it.
 pub fn decide(plan: &Lent, progress: Progress, serial: u32, fix: Fix) -> Decided
-    ensures { stepped_by (lent_plan plan.now) result ≡ step_of (state_of (lent_plan plan.now) progress) serial fix }
+    ensures { stepped_by (lent_plan plan.now) result ≡ step_of (with_progress (lent_plan plan.now) progress) serial fix }
 {
     if !valid(plan, progress) {
         return refuse(progress, refusals::NO_STATE);

@@ -1,4 +1,4 @@
--- The plan that is lent, and what its places ask of one. Assumes nothing.
+-- No clause: the plan that is lent, and what its places ask of one. Assumes nothing.
 use Rattle.std.specs.Prelude.{ℕ}
 use Rattle.plan.specs.declared.Plan.{Plan}
 use Rattle.plan.specs.declared.lent.Lent.{Lent}
@@ -18,8 +18,10 @@ PointPlaced p = Placed p.norths p.easts p.downs
 abbrev pub CourseThere : Plan → ℕ → Type 0
 CourseThere p = Aiming p.courses
 
+-- for proofs alone
 abbrev pub PointsCounted : Plan → Type 0
 PointsCounted p = Counted p.norths p.easts p.downs p.head.count
 
+-- for proofs alone
 abbrev pub PlanFits : Plan → Type 0
 PlanFits p = Fit p.head.radius p.head.count p.norths p.easts p.downs p.courses

@@ -1,4 +1,4 @@
--- What is asked of numbers that are lent as a plan's: a number for every place. Assumes nothing.
+-- No clause: what is asked of numbers that are lent as a plan's: a number for every place. Assumes nothing.
 use Rattle.std.specs.Prelude.{◌≤◌, List, ℤ, length}
 use Rattle.plan.specs.Limits.{most_points}
 

@@ -36,13 +36,13 @@ with_effect a (AddPoint p) = with_point a p
 with_effect a (SetRadius n) = with_radius a n
 with_effect a (AddCourse c) = with_course a c
 
--- the same as a verdict, or what is wrong with a record
+-- the same as a verdict, or what is wrong with a record; for proofs alone
 unfoldable pub verdict_of : Parts → Result Effect Fault → Verdict
 verdict_of a (Ok x) = takes (with_effect a x)
 verdict_of a (Err Wrong) = wrong
 verdict_of a (Err TooNew) = beyond
 
--- the refusal of a record at an offset
+-- the refusal of a record at an offset; for proofs alone
 unfoldable pub fault_at : Fault → ℕ → Refusal
 fault_at Wrong at = record { number = wrong_record; place = at }
 fault_at TooNew at = record { number = too_new; place = at }

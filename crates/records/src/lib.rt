@@ -405,6 +405,7 @@ pub fn gather(
 {
     let mut at: usize = HEADER_LENGTH;
     let mut tally = Tally::default();
+    // No `for`: a record says itself where the next one is.
     while at < file.len() {
         let Some(to) = end_at(file, at) else {
             return Err(Fault::Wrong.at(at));

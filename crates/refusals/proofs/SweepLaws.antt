@@ -10,10 +10,9 @@ use Rattle.conditions.specs.Both.{both}
 use Rattle.conditions.proofs.ChooseLaws.{choose-true, choose-false}
 use Rattle.conditions.proofs.Bools.{by_bool, clash, both-on, both-off, both-off-second, both-last, both_first, both-second, both-swap, both-both}
 use Rattle.refusals.specs.Outcome.{Outcome, good, refused, and_then, refusal_of, is_good}
-use Rattle.std.proofs.Common.{Option, Some, None, Result, Ok, Err}
+use Rattle.std.proofs.Common.{Option, Some, None, Err}
 use Rattle.std.specs.Option.{is_some}
 use Rattle.std.specs.Result.{is_ok}
-use Rattle.refusals.specs.declared.Refusal.{Refusal}
 use Rattle.refusals.specs.Sweep.{Done, done, sweep, every, noted, passed_of, unless_found}
 use Rattle.refusals.proofs.OutcomeLaws.{Proper}
 

@@ -29,7 +29,7 @@ unfoldable pub passed_of : {A : Type 0} → Outcome A → Result Unit Refusal
 passed_of (good a) = Ok tt
 passed_of (refused number place) = Err (record { number = number; place = place })
 
--- the next answer, unless something was found before
+-- the next answer, unless something was found before; for proofs alone
 unfoldable pub unless_found : Result Unit Refusal → Result Unit Refusal → Result Unit Refusal
 unless_found (Ok u) next = next
 unless_found (Err refusal) next = Err refusal

@@ -32,7 +32,7 @@ use Rattle.wpl.proofs.StartLaws.{load-valid}
 use Rattle.strips.specs.declared.Fault.{Fault}
 use Rattle.strips.specs.declared.Strip.{Strip}
 use Rattle.strips.specs.Strips.{strips_in, StripPlan}
-use Rattle.strips.specs.Check.{Checked, refused_check, paired_of, fault_check, check_of, answered, numbered, strip_row}
+use Rattle.strips.specs.Check.{Checked, refused_check, paired_of, fault_check, check_of, checked_as, numbered, strip_row}
 use Rattle.strips.proofs.CheckLaws.{check-unpaired, check-paired, told}
 use Rattle.strips.proofs.RowLaws.{counts}
 use Rattle.strips.proofs.TiedLaws.{tied}
@@ -87,17 +87,17 @@ module _ (version : ℕ) (s : State) (x : Checked) where
 
 -- by what the check of a state answers
 module _ (version : ℕ) (s : State) where
-  answered-refuses : {f : Fault} → Err f ≡ answered (check_of s) → f.refusal ≡ 0 → ⊥
-  unfolding answered
-  answered-refuses e z =
+  checked_as-refuses : {f : Fault} → Err f ≡ checked_as (check_of s) → f.refusal ≡ 0 → ⊥
+  unfolding checked_as
+  checked_as-refuses e z =
       let n : (check_of s).refusal ≡ 0 = sym (ap (λ (x : Checked). x.refusal) (told s e)) ∙ z in
       clash false (ap is_ok (e ∙ choose-true _ _ _ (eq-eqb (check_of s).refusal 0 n))) refl
 
-  pub text-strips : {strips : ℕ} → Ok strips ≡ answered (check_of s) → checked_text version s (check_of s) ≡ strips_text version s strips
+  pub text-strips : {strips : ℕ} → Ok strips ≡ checked_as (check_of s) → checked_text version s (check_of s) ≡ strips_text version s strips
   text-strips {strips} e = ap (checked_text version s) (sym (told s e)) ∙ text-passes version s (numbered (Ok strips)) refl
 
-  pub text-fault : {f : Fault} → Err f ≡ answered (check_of s) → checked_text version s (check_of s) ≡ fault_text (refused_check f.refusal f.place f.rule)
-  text-fault {f} e = ap (checked_text version s) (sym (told s e)) ∙ text-faults version s (numbered (Err f)) (answered-refuses e)
+  pub text-fault : {f : Fault} → Err f ≡ checked_as (check_of s) → checked_text version s (check_of s) ≡ fault_text (refused_check f.refusal f.place f.rule)
+  text-fault {f} e = ap (checked_text version s) (sym (told s e)) ∙ text-faults version s (numbered (Err f)) (checked_as-refuses e)
 
 -- ---- a file that loads, and one that is refused
 module _ (version : ℕ) (x : Loaded) where

@@ -19,7 +19,7 @@ use Rattle.manager.specs.declared.State.{State}
 use Rattle.manager.specs.State.{valid_of}
 use Rattle.strips.specs.declared.Fault.{Fault}
 use Rattle.strips.specs.Strips.{strips_in}
-use Rattle.strips.specs.Check.{Checked, fault_of, refused_check, paired_of, fault_check, plan_check, check_of, answered, numbered}
+use Rattle.strips.specs.Check.{Checked, fault_of, refused_check, paired_of, fault_check, plan_check, check_of, checked_as, numbered}
 
 module _ (s : State) where
   pub check-unsound : valid_of s ≡ false → check_of s ≡ refused_check no_state 0 0
@@ -46,19 +46,19 @@ first_of (Err r) = r
 abbrev pub broken_by : Refusal → Fault
 broken_by r = record { refusal = not_strips; place = r.place; rule = r.number }
 
-pub fault-none : (n : ℕ) (o : Outcome Done) → is_ok (passed_of o) ≡ true → Ok (strips_in n) ≡ answered (fault_check n o)
-unfolding passed_of fault_check answered choose
+pub fault-none : (n : ℕ) (o : Outcome Done) → is_ok (passed_of o) ≡ true → Ok (strips_in n) ≡ checked_as (fault_check n o)
+unfolding passed_of fault_check checked_as choose
 fault-none n (good d) h = refl
 fault-none n (refused rule strip) h = clash false h refl
 
-pub fault-found : (n : ℕ) (o : Outcome Done) {r : Refusal} → Err r ≡ passed_of o → refused_with (broken_by r) ≡ answered (fault_check n o)
-unfolding passed_of fault_check answered choose
+pub fault-found : (n : ℕ) (o : Outcome Done) {r : Refusal} → Err r ≡ passed_of o → refused_with (broken_by r) ≡ checked_as (fault_check n o)
+unfolding passed_of fault_check checked_as choose
 fault-found n (good d) e = clash false (ap is_ok e) refl
 fault-found n (refused rule strip) e = ap (λ (r : Refusal). refused_with (broken_by r)) (ap first_of e)
 
 -- ---- an answer says all numbers of the check
 abbrev Kept : Checked → Type 0
-Kept c = numbered (answered c) ≡ c
+Kept c = numbered (checked_as c) ≡ c
 
 kept-either : (b : Bool) (c d : Checked) → Kept c → Kept d → Kept (choose b c d)
 unfolding choose
@@ -66,12 +66,12 @@ kept-either true c d h k = h
 kept-either false c d h k = k
 
 kept-found : (n : ℕ) (o : Outcome Done) → Kept (fault_check n o)
-unfolding fault_check answered choose
+unfolding fault_check checked_as choose
 kept-found n (good d) = refl
 kept-found n (refused rule strip) = refl
 
 kept-refused : (number place rule : ℕ) → (number ≡ 0 → ⊥) → Kept (refused_check number place rule)
-unfolding answered choose
+unfolding checked_as choose
 kept-refused number place rule h = rw (ne_eqb number 0 h)
 
 kept : (s : State) → Kept (check_of s)
@@ -81,5 +81,5 @@ kept s =
     let m : no_state ≡ 0 → ⊥ = λ e. omega (arith, e) in
     kept-either _ _ _ (kept-either _ _ _ (kept-found _ _) (kept-refused not_strips 0 0 n)) (kept-refused no_state 0 0 m)
 
-pub told : (s : State) {r : Result ℕ Fault} → r ≡ answered (check_of s) → numbered r ≡ check_of s
+pub told : (s : State) {r : Result ℕ Fault} → r ≡ checked_as (check_of s) → numbered r ≡ check_of s
 told s e = ap numbered e ∙ kept s

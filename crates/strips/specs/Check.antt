@@ -74,8 +74,8 @@ unfoldable pub check_of : State → Checked
 check_of s = choose (valid_of s) (plan_check s.plan) (refused_check no_state 0 0)
 
 -- as functions answer it, and the numbers of such an answer
-unfoldable pub answered : Checked → Result ℕ Fault
-answered c = choose (eqb c.refusal 0) (Ok c.strips) (Err (record { refusal = c.refusal; place = c.place; rule = c.rule }))
+unfoldable pub checked_as : Checked → Result ℕ Fault
+checked_as c = choose (eqb c.refusal 0) (Ok c.strips) (Err (record { refusal = c.refusal; place = c.place; rule = c.rule }))
 
 abbrev pub numbered : Result ℕ Fault → Checked
 numbered (Ok strips) = record { refusal = 0; place = 0; rule = 0; strips = strips }

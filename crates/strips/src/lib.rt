@@ -8,9 +8,9 @@ ghost use Rattle.course.specs.Vectors.{Near};
 ghost use Rattle.plan.specs.Limits.{most_points, full_circle};
 ghost use Rattle.plan.specs.Places.{plan_point, plan_course};
 ghost use Rattle.plan.specs.Lent.{lent_plan, PointPlaced};
-ghost use Rattle.manager.specs.State.{state_of};
+ghost use Rattle.manager.specs.State.{with_progress};
 ghost use Rattle.strips.specs.Strips.{first_place, last_place, strip_leg};
-ghost use Rattle.strips.specs.Check.{opposed_of, rule_broken, fault_of, paired_of, check_of, answered, numbered, strip_of, strip_row, Tied, OneAnswer, StripThere, StripsThere};
+ghost use Rattle.strips.specs.Check.{opposed_of, rule_broken, fault_of, paired_of, check_of, checked_as, numbered, strip_of, strip_row, Tied, OneAnswer, StripThere, StripsThere};
 ghost use Rattle.strips.specs.Holds.{StripsHold};
 
 use course::Vector;
@@ -131,7 +131,7 @@ fn at_once(refusal: u8) -> Fault
 
 // Whether a state, its plan lent, has a strip plan, and of how many strips.
 fn check_from(plan: &Lent, progress: Progress) -> Result<usize, Fault>
-    ensures { result ≡ answered (check_of (state_of (lent_plan plan.now) progress)) }
+    ensures { result ≡ checked_as (check_of (with_progress (lent_plan plan.now) progress)) }
 {
     if !manager::valid(plan, progress) {
         return Err(at_once(refusals::NO_STATE));
@@ -165,8 +165,8 @@ pub fn row_at(plan: &Lent, number: usize) -> Strip
 
 // The check of a state, its plan lent, and the row of a strip by its number; zeros in the row where the plan is no strip plan, or has no such strip.
 pub fn told_from(plan: &Lent, progress: Progress, number: usize) -> Told
-    ensures checked_value { result.checked ≡ answered (check_of (state_of (lent_plan plan.now) progress)) }
-    ensures strip_value { result.strip ≡ strip_row (state_of (lent_plan plan.now) progress) number }
+    ensures checked_value { result.checked ≡ checked_as (check_of (with_progress (lent_plan plan.now) progress)) }
+    ensures strip_value { result.strip ≡ strip_row (with_progress (lent_plan plan.now) progress) number }
 {
     let checked = check_from(plan, progress);
     let strip = match checked {
@@ -182,7 +182,7 @@ pub fn told_from(plan: &Lent, progress: Progress, number: usize) -> Told
 
 // Whether a state's plan is a strip plan, and of how many strips.
 pub fn check(state: State) -> Result<usize, Fault>
-    ensures { (result ≡ answered (check_of state)) × (Tied state (numbered result) × (OneAnswer × StripsHold)) }
+    ensures { (result ≡ checked_as (check_of state)) × (Tied state (numbered result) × (OneAnswer × StripsHold)) }
 {
     check_from(&state.plan.lent(), state.progress)
 }

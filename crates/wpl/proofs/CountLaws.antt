@@ -1,25 +1,21 @@
--- How many notes a file has: record by record; that those which have bytes are numbered from 1 to so many; and that there are no more than the
+-- How many notes a file has: that those which have bytes are numbered from 1 to so many; and that there are no more than the
 -- area has bytes. Assumes nothing.
 use mathlib.Core.Path.{◌≡◌, sym, ap, ◌∙◌}
 use mathlib.Core.Bool.{true, false}
 use mathlib.Core.List.{List, [], ◌∷◌}
-use Prim.Native.Nat.{ℕ, zero, suc, ◌+◌, ◌-◌, ◌≤◌, ◌<◌}
+use Prim.Native.Nat.{ℕ, zero, suc, ◌+◌, ◌-◌, ◌≤◌}
 use native.Mathlib.Omega.{arith}
-use lib.Dec.{eqb, leb, ltb}
-use lib.ListN.{length, get_or, take, drop, length-drop}
-use borrow.Author.Tests.{eq-eqb, ne_eqb, eqb-true, eqb-false, ltb-true, ltb-false}
-use Rattle.std.proofs.Common.{None}
-use Rattle.std.specs.Int.{from_bool}
+use lib.Dec.{eqb, leb}
+use lib.ListN.{length, take, drop, length-drop}
+use borrow.Author.Tests.{eq-eqb, ne_eqb, eqb-true, eqb-false}
 use Rattle.conditions.proofs.ChooseLaws.{choose-true, choose-false}
 use Rattle.refusals.specs.Outcome.{good, is_good}
 use Rattle.conditions.proofs.Bools.{by_bool, both-on, both_first, both-second}
 use Rattle.records.specs.Walk.{Walked, end, short, more, walk_by, walk}
 use Rattle.records.specs.Versions.{newest}
 use Rattle.records.specs.Kinds.{Parts, judge}
-use Rattle.records.specs.Gather.{header_length, gather, end_at, whole_end}
+use Rattle.records.specs.Gather.{header_length, gather}
 use Rattle.records.proofs.VersionLaws.{after-good}
-use Rattle.records.proofs.WalkLaws.{walk-at-end, walk-at-cut, walk-at-more}
-use Rattle.records.proofs.StepLaws.{Whole, cut-past}
 use Rattle.wpl.specs.Header.{most_area}
 use Rattle.wpl.specs.Load.{records_of, parts_of, load_of, loaded_of}
 use Rattle.wpl.specs.Note.{wanted_of, left_of, note_in, note_of, noted_of, notes_in, notes_of, Numbered}
@@ -27,25 +23,6 @@ use Rattle.wpl.proofs.HeaderLaws.{area-most}
 use Rattle.wpl.proofs.LoadStepLaws.{load-steps}
 use Rattle.wpl.proofs.NoteLaws.{newest-loads}
 use Rattle.wpl.proofs.NoteLengthLaws.{note-taken, wanted-note, good-state}
-
--- ---- the record at an offset
-module _ (f : List ℕ) (at : ℕ) where
-  count-end : length f ≤ at → notes_in (walk (drop at f)) ≡ 0
-  unfolding notes_in
-  count-end h = rw (walk-at-end f at h)
-
-  count_cut : at < length f → length f < end_at f at → notes_in (walk (drop at f)) ≡ 0
-  unfolding notes_in end_at
-  count_cut h l = rw (walk-at-cut f at h l)
-
-  -- no whole record stands there
-  pub count-stop : whole_end f at ≡ None → notes_in (walk (drop at f)) ≡ 0
-  count-stop e =
-      by_bool (ltb at (length f)) (λ t. count_cut (ltb-true _ _ t) (cut-past f at e)) (λ t. count-end (ltb-false _ _ t))
-
-  pub count_next : (to : ℕ) → Whole f at to → notes_in (walk (drop at f)) ≡ noted_of (get_or f at 0) + notes_in (walk (drop to f))
-  unfolding notes_in end_at
-  count_next to w = rw w.ends (ap notes_in (walk-at-more f at (rw w.ends at w.inside)))
 
 -- ---- one record: what it counts, and how many notes on one is after it
 module _ (k : ℕ) where
@@ -56,10 +33,6 @@ module _ (k : ℕ) where
   no_note : eqb k 128 ≡ false → noted_of k ≡ 0
   unfolding noted_of
   no_note t = choose-false _ _ _ t
-
-  -- as the code counts it
-  pub noted-one : (n : ℕ) → n ≡ from_bool (eqb k 128) → n ≡ noted_of k
-  noted-one n e = e ∙ by_bool (eqb k 128) (λ t. rw (t, is-note t)) (λ t. rw (t, no_note t))
 
   pub counts-one : noted_of k ≤ 1
   counts-one = by_bool (eqb k 128) (λ t. omega (arith, is-note t)) (λ t. omega (arith, no_note t))

@@ -12,3 +12,4 @@ pub mod LongLaws
 pub mod GivenLaws
 pub mod StartLaws
 pub mod OrderLaws
+pub mod ListedLaws

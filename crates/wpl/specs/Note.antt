@@ -1,11 +1,12 @@
 -- Clauses 5.3 to 5.5, 15.1, 17.14, 18.1: the notes of a file. Assumes nothing.
-use Rattle.std.specs.Prelude.{Bool, List, [], ℕ, ◌+◌, ◌-◌, ◌≤◌, eqb, length}
+use Rattle.std.specs.Prelude.{Bool, List, [], ◌∷◌, ℕ, ◌+◌, ◌-◌, ◌≤◌, eqb, length}
 use Rattle.conditions.specs.Choose.{choose}
 use Rattle.conditions.specs.Both.{both}
 use Rattle.refusals.specs.Outcome.{is_good}
 use Rattle.records.specs.Walk.{Walked, end, short, more}
 use Rattle.records.specs.Versions.{newest}
 use Rattle.records.specs.Kinds.{note_row}
+use Rattle.wpl.specs.declared.Record.{Record}
 use Rattle.wpl.specs.Load.{records_of, load_of}
 
 -- n = 1 stands for the next note. Whether a record of kind k is the note that is sought; and what n is after a record that is not.
@@ -40,3 +41,12 @@ notes_of f = choose (is_good (load_of newest f)) (notes_in (records_of f)) 0
 pub record Numbered (f : List ℕ) : Type 0 where
   pub each : (n : ℕ) → 1 ≤ n → n ≤ notes_of f → 1 ≤ length (note_of f n)
   pub none-else : (n : ℕ) → 1 ≤ length (note_of f n) → (1 ≤ n) × (n ≤ notes_of f)
+
+-- ---- records as the code reads them, one after another; for proofs alone
+abbrev pub record_seen : Record → ℕ × List ℕ
+record_seen r = (r.kind, r.body.now)
+
+unfoldable pub records_seen : Walked → List (ℕ × List ℕ)
+records_seen end = []
+records_seen short = []
+records_seen (more k b w) = (k, b) ∷ records_seen w

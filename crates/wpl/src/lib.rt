@@ -3,6 +3,8 @@
 
 ghost use Rattle.std.specs.Prelude.{◌≡◌, ◌+◌, ◌≤◌, [], length, take, drop, unwrap_or};
 ghost use Rattle.std.specs.Option.{option_copied};
+ghost use Rattle.std.specs.Iterator.{YieldsFirstBy, item_count};
+ghost use Rattle.records.specs.Walk.{walk};
 ghost use Rattle.conditions.specs.All.{All};
 ghost use Rattle.refusals.specs.Outcome.{good};
 ghost use Rattle.refusals.specs.Sweep.{passed_of};
@@ -10,7 +12,7 @@ ghost use Rattle.plan.specs.Limits.{most_points};
 ghost use Rattle.plan.specs.Places.{plan_numbers, numbers_of, Filled};
 ghost use Rattle.plan.specs.Lent.{lent_plan};
 ghost use Rattle.manager.specs.declared.State.{State};
-ghost use Rattle.manager.specs.State.{state_of};
+ghost use Rattle.manager.specs.State.{with_progress};
 ghost use Rattle.records.specs.Kinds.{Parts, no_parts};
 ghost use Rattle.records.specs.Gather.{header_length, InRange};
 ghost use Rattle.records.specs.Held.{answer_of, numbers_in};
@@ -20,7 +22,7 @@ ghost use Rattle.wpl.specs.Write.{carried_since, write_of, written_of, buffer_of
 ghost use Rattle.wpl.specs.RoundTrip.{RoundTrip, EveryReader};
 ghost use Rattle.wpl.specs.Starts.{Starts};
 ghost use Rattle.wpl.specs.Order.{Refused, load_order, write_order};
-ghost use Rattle.wpl.specs.Note.{note_in, note_of, notes_in, notes_of, Numbered};
+ghost use Rattle.wpl.specs.Note.{note_in, note_of, notes_in, notes_of, record_seen, records_seen, Numbered};
 
 use manager::{Progress, State};
 use plan::{Head, Lent, Mode, Plan};
@@ -62,6 +64,34 @@ pub struct Written {
     pub refusal: u8,
     pub place: usize,
     pub length: usize,
+}
+
+// A record of a file.
+#[derive(Clone, Copy)]
+struct Record<'a> {
+    kind: u8,
+    body: &'a [u8],
+}
+
+// The records that some bytes begin with, up to one that is cut short.
+#[derive(Clone, Copy)]
+struct Records<'a>(&'a [u8]);
+
+impl<'a> Iterator for Records<'a> {
+    type Item = Record<'a>;
+
+    ghost next_gives = { YieldsFirstBy record_seen (λ s. records_seen (walk s.0.now)) };
+
+    ghost remaining = { item_count (λ s. records_seen (walk s.0.now)) };
+
+    fn next(&mut self) -> Option<Record<'a>> {
+        let [kind, size, rest @ ..] = self.0 else {
+            return None;
+        };
+        let (body, rest) = rest.split_at_checked(usize::from(*size))?;
+        self.0 = rest;
+        Some(Record { kind: *kind, body })
+    }
 }
 
 // The kind of notes.
@@ -257,7 +287,7 @@ fn carried_since(mode: Mode) -> u32
 
 // Whether a write into so much room is refused, and why.
 fn write_refusal(plan: &Lent, progress: Progress, version: u32, room: usize) -> Result<(), Refusal>
-    ensures { result ≡ passed_of (write_of (state_of (lent_plan plan.now) progress) version room) }
+    ensures { result ≡ passed_of (write_of (with_progress (lent_plan plan.now) progress) version room) }
 {
     if !manager::valid(plan, progress) {
         return Err(refusals::failed(refusals::NO_STATE));
@@ -277,10 +307,10 @@ fn write_refusal(plan: &Lent, progress: Progress, version: u32, room: usize) -> 
 // The file of a lent plan at a version, into the first bytes of a buffer. Refused, nothing is written.
 pub fn write_from(plan: &Lent, progress: Progress, version: u32, file: &mut [u8]) -> Written
     requires { Filled (lent_plan plan.now) }
-    ensures value { result ≡ written_of (write_of (state_of (lent_plan plan.now) progress) version (length file.old)) }
-    ensures file_after { file.new ≡ buffer_of (write_of (state_of (lent_plan plan.now) progress) version (length file.old)) file.old }
-    ensures round_trip { RoundTrip (state_of (lent_plan plan.now) progress) }
-    ensures every_reader { EveryReader (state_of (lent_plan plan.now) progress) }
+    ensures value { result ≡ written_of (write_of (with_progress (lent_plan plan.now) progress) version (length file.old)) }
+    ensures file_after { file.new ≡ buffer_of (write_of (with_progress (lent_plan plan.now) progress) version (length file.old)) file.old }
+    ensures round_trip { RoundTrip (with_progress (lent_plan plan.now) progress) }
+    ensures every_reader { EveryReader (with_progress (lent_plan plan.now) progress) }
 {
     if let Err(found) = write_refusal(plan, progress, version, file.len()) {
         return Written {
@@ -308,22 +338,21 @@ pub fn write(state: State, version: u32, file: &mut [u8]) -> Written
     write_from(&state.plan.lent(), state.progress, version, file)
 }
 
+// The records of a file.
+fn records_in(file: &[u8]) -> Records
+    ensures { walk result.0.now ≡ records_of file.now }
+{
+    Records(file.get(records::HEADER_LENGTH..).unwrap_or(&[]))
+}
+
 // The bytes of a note, where there is one.
 fn find_note(file: &[u8], number: usize) -> Option<&[u8]>
     ensures { unwrap_or (option_copied result) [] ≡ note_in number (records_of file.now) }
 {
-    let mut at = records::HEADER_LENGTH;
-    let mut left = number;
-    while let Some(to) = records::end_at(file, at) {
-        if file[at] == NOTE {
-            if left == 1 {
-                return Some(&file[at + records::BODY_OFFSET..to]);
-            }
-            left = left.saturating_sub(1);
-        }
-        at = to;
-    }
-    None
+    let note = records_in(file)
+        .filter(|record| record.kind == NOTE)
+        .nth(number.checked_sub(1)?)?;
+    Some(note.body)
 }
 
 // The bytes of a note, by its number from 1, or no bytes where the newest reader refuses the file or there is no such note.
@@ -341,13 +370,7 @@ pub fn note(file: &[u8], number: usize) -> &[u8]
 fn count_notes(file: &[u8]) -> usize
     ensures { result ≡ notes_in (records_of file.now) }
 {
-    let mut at = records::HEADER_LENGTH;
-    let mut count = 0;
-    while let Some(to) = records::end_at(file, at) {
-        count += usize::from(file[at] == NOTE);
-        at = to;
-    }
-    count
+    records_in(file).filter(|each| each.kind == NOTE).count()
 }
 
 // How many notes a file has, 0 where the newest reader refuses it.

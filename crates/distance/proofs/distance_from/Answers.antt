@@ -7,7 +7,7 @@ use Rattle.refusals.specs.declared.Refusal.{Refusal}
 use Rattle.refusals.specs.Outcome.{check, refusal_of}
 use Rattle.plan.specs.Lent.{lent_plan}
 use Rattle.manager.specs.declared.State.{State}
-use Rattle.manager.specs.State.{state_of}
+use Rattle.manager.specs.State.{with_progress}
 use Rattle.manager.proofs.StateLaws.{last-is}
 use Rattle.distance.specs.Lengths.{entry_of}
 use Rattle.distance.specs.Table.{distance_by}
@@ -17,7 +17,7 @@ use Rattle.distance.proofs.distance_from.Goals as goal
 use Rattle.distance.proofs.distance_from.Goals.{Start}
 
 abbrev state : Start → State
-state s = state_of (lent_plan s.args.plan.now) s.args.progress
+state s = with_progress (lent_plan s.args.plan.now) s.args.progress
 
 -- a refusal and a length as answers
 abbrev refused_with : Refusal → Result ℕ Refusal

@@ -10,7 +10,7 @@ use Rattle.refusals.specs.Outcome.{Outcome, check, refusal_of}
 use Rattle.refusals.specs.Sweep.{passed_of}
 use Rattle.plan.specs.Lent.{lent_plan}
 use Rattle.manager.specs.declared.State.{State}
-use Rattle.manager.specs.State.{state_of}
+use Rattle.manager.specs.State.{with_progress}
 use Rattle.distance.specs.Table.{table_of}
 use Rattle.distance.proofs.PassLaws.{sound-of}
 use Rattle.distance.proofs.TableLaws.{told-all}
@@ -19,7 +19,7 @@ use Rattle.distance.proofs.distances_from.Goals as goal
 use Rattle.distance.proofs.distances_from.Goals.{Start}
 
 abbrev state : Start → State
-state s = state_of (lent_plan s.args.plan.now) s.args.progress
+state s = with_progress (lent_plan s.args.plan.now) s.args.progress
 
 -- a refusal as an answer
 abbrev refused_with : Refusal → Result Unit Refusal

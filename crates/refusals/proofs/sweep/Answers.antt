@@ -25,8 +25,8 @@ loop-place-preserved g c =
       (
         search rules,
         λ f post. noted-next f c.args.places.start c.args.places.end i (c.loop-place.invariant.1.1 f post) at (subst (λ k. k < c.args.places.end) at below)
-        (post c.in-Some.place None low below c.in_default.ensures)
-        ∙ ap (λ k. sweep f (c.args.places.end - k) k) (sym next),
+            (post c.in-Some.place None low below c.in_default.ensures)
+            ∙ ap (λ k. sweep f (c.args.places.end - k) k) (sym next),
       ),
     )
 

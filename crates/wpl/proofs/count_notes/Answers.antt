@@ -1,36 +1,30 @@
--- `count_notes` walks over the records. The loop's invariant: what is counted and the notes from here on are those of the file. The measure is what
--- is left of the file. Assumes nothing.
-use mathlib.Core.Path.{sym, ◌∙◌}
+-- `count_notes` counts the notes among the records. Assumes nothing.
+use mathlib.Core.Path.{ap, ◌∙◌}
+use mathlib.Core.Logic.{inl}
 use native.Mathlib.Omega.{arith}
-use lib.ListN.{drop, length-drop}
-use Rattle.records.specs.Gather.{header_length}
-use Rattle.records.proofs.StepLaws.{Whole, whole}
+use lib.ListN.{length, drop, length-drop}
 use Rattle.wpl.specs.Load.{records_of}
-use Rattle.wpl.proofs.CountLaws.{count-stop, count_next, most-in, noted-one}
+use Rattle.std.proofs.Common.{rules, tests}
+use Rattle.std.proofs.lemmas.Iterator.Consumers.{count_from_yields_List, YieldsList-from_filter, YieldsList-from_first, YieldsList-at}
+use Rattle.records.specs.Walk.{walk}
+use Rattle.wpl.specs.Note.{record_seen, records_seen}
+use Rattle.wpl.proofs.ListedLaws.{is_note, listed-most, notes-listed}
 use Rattle.wpl.proofs.count_notes.Goals as goal
-use Rattle.wpl.proofs.count_notes.Goals.{In-Some}
 
--- the record that is not cut short
-here : (c : In-Some) → Whole c.args.file.now c.loop-to.at c.in-Some.to
-here c = whole _ _ _ (sym c.end_at.ensures ∙ c.in-Some.is)
-
-pub bounds-file-at : goal.bounds-file-at
-bounds-file-at c = let w = here (goal.at.bounds-file-at c).In-Some in omega (arith, w.further, w.inside)
-
-pub overflow_add-count : goal.overflow_add-count
-overflow_add-count c =
+pub count-requires-clause-fits : goal.count-requires-clause-fits
+unfolding records_of
+count-requires-clause-fits c =
     let f = c.args.file.now in
-    let w = here (goal.at.overflow_add-count c).In-Some in
-    omega (arith, c.loop-to.invariant, count_next _ _ _ w, noted-one _ _ c.from-count.ensures, most-in (drop header_length f), length-drop header_length f)
-
-pub loop-to-smaller : goal.loop-to-smaller
-loop-to-smaller c = let w = here (goal.at.loop-to-smaller c).In-Some in omega (arith, w.further, w.inside)
-
-pub loop-to-preserved : goal.loop-to-preserved
-loop-to-preserved c =
-    let w = here (goal.at.loop-to-preserved c).In-Some in
-    omega (arith, c.loop-to.invariant, count_next _ _ _ w, noted-one _ _ c.from-count.ensures)
+    inl (omega (
+      arith,
+      ap (λ r. length (records_seen (walk r.0.now))) c.filter.ensures.source,
+      ap (λ w. length (records_seen w)) c.records_in.ensures,
+      listed-most (drop 11 f),
+      length-drop 11 f,
+    ))
 
 pub returns : goal.returns
-unfolding records_of
-returns c = omega (arith, c.loop-to.invariant, count-stop _ _ (sym c.end_at.ensures ∙ c.in_default.is))
+returns c =
+    count_from_yields_List c.filter.result _ c.count.ensures.ran
+    (YieldsList-from_filter _ is_note (YieldsList-at c.filter.ensures.source (YieldsList-from_first record_seen (λ s. records_seen (walk s.0.now)) _ (ap records_seen c.records_in.ensures))) c.filter.ensures.closure (λ x r q k. search (rules, tests)))
+    ∙ notes-listed _

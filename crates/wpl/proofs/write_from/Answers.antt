@@ -6,7 +6,7 @@ use native.Mathlib.Omega.{arith}
 use lib.ListN.{length}
 use Rattle.refusals.specs.Outcome.{Outcome, refused}
 use Rattle.plan.specs.Lent.{lent_plan}
-use Rattle.manager.specs.State.{state_of}
+use Rattle.manager.specs.State.{with_progress}
 use Rattle.wpl.specs.Write.{write_of, written_of, buffer_of}
 use Rattle.wpl.proofs.WriteLaws.{Passes, none-refused, write-refused, write-passes, count_most, writable}
 use Rattle.wpl.proofs.RoundTripLaws.{round_trip, every-reader}
@@ -14,11 +14,11 @@ use Rattle.wpl.proofs.write_from.Goals as goal
 use Rattle.wpl.proofs.write_from.Goals.{In-Err, In_default}
 
 -- what was refused
-refusal : (c : In-Err) → write_of (state_of (lent_plan c.args.plan.now) c.args.progress) c.args.version (length c.args.file.now) ≡ refused c.in-Err.found.number c.in-Err.found.place
+refusal : (c : In-Err) → write_of (with_progress (lent_plan c.args.plan.now) c.args.progress) c.args.version (length c.args.file.now) ≡ refused c.in-Err.found.number c.in-Err.found.place
 refusal c = write-refused _ _ _ _ (sym c.write_refusal.ensures ∙ c.in-Err.is)
 
 -- nothing was
-passes : (c : In_default) → Passes (state_of (lent_plan c.args.plan.now) c.args.progress) c.args.version (length c.args.file.now)
+passes : (c : In_default) → Passes (with_progress (lent_plan c.args.plan.now) c.args.progress) c.args.version (length c.args.file.now)
 passes c = none-refused _ _ _ _ (sym c.write_refusal.ensures ∙ c.in_default.is)
 
 pub returns-in-Err-clause-value : goal.returns-in-Err-clause-value
