@@ -66,8 +66,8 @@ pub fn put_title(version: u16, head: Head, out: &mut Text)
     ensures { Added (title_of version head) out.old out.new × AtMost 95 out.old out.new }
 {
     let mode = head.mode;
-    out.count(b"plan ", head.serial as u64);
-    out.count(b" version ", version as u64);
+    out.count(b"plan ", u64::from(head.serial));
+    out.count(b" version ", u64::from(version));
     out.text(b" mode ");
     put_mode(mode, out);
     out.count(b" points ", head.count as u64);
@@ -162,7 +162,7 @@ pub fn listing(file: &[u8], buffer: &mut [u8]) -> usize
         );
         return out.at;
     }
-    out.refusal(loaded.refusal as u64, loaded.place as u64);
+    out.refusal(u64::from(loaded.refusal), loaded.place as u64);
     out.byte(b'\n');
     out.at
 }
@@ -213,7 +213,7 @@ fn put_word(name: &[u8], value: u32, out: &mut Text)
     requires { Fits (length name.now + 20) out.old }
     ensures { Added (count_text name.now value) out.old out.new × AtMost (length name.now + 20) out.old out.new }
 {
-    out.count(name, value as u64);
+    out.count(name, u64::from(value));
 }
 
 fn put_refused(number: u32, place: u32, out: &mut Text)
@@ -221,7 +221,7 @@ fn put_refused(number: u32, place: u32, out: &mut Text)
     ensures { Added (space ++ refusal_text number place) out.old out.new × AtMost 53 out.old out.new }
 {
     out.byte(b' ');
-    out.refusal(number as u64, place as u64);
+    out.refusal(u64::from(number), u64::from(place));
 }
 
 // The command and the heading, or the refusal.
@@ -264,7 +264,7 @@ pub fn put_load(number: u8, place: usize, out: &mut Text)
     ensures { Added (load_text number place) out.old out.new }
 {
     out.text(b"load ");
-    out.refusal(number as u64, place as u64);
+    out.refusal(u64::from(number), place as u64);
     out.byte(b'\n');
 }
 
@@ -285,7 +285,7 @@ pub fn put_written(written: Written, room: &[u8], out: &mut Text)
     ensures answers_hold { AnswersHold }
 {
     out.text(b"write ");
-    out.refusal(written.refusal as u64, written.place as u64);
+    out.refusal(u64::from(written.refusal), written.place as u64);
     out.count(b" length ", written.length as u64);
     out.byte(b' ');
     out.bytes(room);

@@ -39,6 +39,6 @@ returns c =
     let n = c.new-out.ensures in
     let told =
     whole listing_room (listing_of c.args.file.now) c.args.buffer.now listing-holds c.new-out.result c.byte.new.self (omega (arith, c.if-buffer-lt-LISTING_ROOM.false)) n.place n.bytes
-    (rw (← c.load-loaded.ensures.value, text-refused (version_of c.args.file.now) c.load-loaded.result c.if-loaded-eq0.false)
+    (rw (← c.load-loaded.ensures.value, text-refused (version_of c.args.file.now) c.load-loaded.result c.if-loaded-eq0.false, ← c.from.ensures)
     (joined c.refusal.ensures.wrote.0 c.byte.ensures)) in
     record { value = told.0; buffer_after = rw (← told.1.0) (search rules); upper_bound = told.1.1.0; listing_holds = told.1.1.1 }

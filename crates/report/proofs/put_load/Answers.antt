@@ -6,4 +6,4 @@ use Rattle.report.proofs.put_load.Goals as goal
 pub returns : goal.returns
 unfolding load_text
 returns c =
-    joined c.text.ensures (joined c.refusal.ensures.wrote.0 c.byte.ensures)
+    rw (← c.from.ensures) (joined c.text.ensures (joined c.refusal.ensures.wrote.0 c.byte.ensures))

@@ -5,4 +5,4 @@ use Rattle.report.proofs.put_refused.Goals as goal
 
 pub returns : goal.returns
 returns c =
-    (joined c.byte.ensures c.refusal.ensures.wrote.0, omega (arith, c.byte.ensures.wrote.ends, c.refusal.ensures.wrote.1))
+    rw (← c.from.ensures, ← c.from-2.ensures) (joined c.byte.ensures c.refusal.ensures.wrote.0, omega (arith, c.byte.ensures.wrote.ends, c.refusal.ensures.wrote.1))

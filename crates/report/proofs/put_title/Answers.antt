@@ -6,7 +6,7 @@ use Rattle.report.proofs.put_title.Goals as goal
 
 pub returns : goal.returns
 unfolding title_of
-returns c = (
+returns c = rw (← c.from.ensures, ← c.from-2.ensures) (
   joined c.count.ensures.wrote.0
       (joined c.count-2.ensures.wrote.0
       (joined c.text.ensures

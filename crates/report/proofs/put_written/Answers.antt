@@ -8,8 +8,9 @@ pub returns : goal.returns
 unfolding written_text
 returns c =
     record {
-      wrote = joined c.text.ensures
+      wrote = rw (← c.from.ensures)
+          (joined c.text.ensures
           (joined c.refusal.ensures.wrote.0
-          (joined c.count.ensures.wrote.0 (joined c.byte.ensures (joined c.bytes.ensures.wrote.0 c.byte-2.ensures))));
+          (joined c.count.ensures.wrote.0 (joined c.byte.ensures (joined c.bytes.ensures.wrote.0 c.byte-2.ensures)))));
       answers_hold = answers-hold;
     }
