@@ -88,7 +88,7 @@ pub fn strip_listing(file: &[u8], buffer: &mut [u8]) -> usize
         put_checked(version, state, &mut out);
         return out.at;
     }
-    out.refusal(loaded.refusal as u64, loaded.place as u64);
+    out.refusal(u64::from(loaded.refusal), loaded.place as u64);
     out.byte(b'\n');
     out.at
 }

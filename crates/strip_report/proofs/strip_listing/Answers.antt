@@ -29,6 +29,6 @@ returns c =
     let n = c.new-out.ensures in
     let told =
     whole strip_listing_room (strip_listing_of c.args.file.now) c.args.buffer.now (holds c.args.file.now) c.new-out.result c.byte.new.self (omega (arith, c.if-buffer-lt-STRIP_LISTING_ROOM.false)) n.place n.bytes
-    (rw (← c.load-loaded.ensures.value, strips-refused (version_of c.args.file.now) c.load-loaded.result c.if-loaded-eq0.false)
+    (rw (← c.load-loaded.ensures.value, strips-refused (version_of c.args.file.now) c.load-loaded.result c.if-loaded-eq0.false, ← c.from.ensures)
     (joined c.refusal.ensures.wrote.0 c.byte.ensures)) in
     record { value = told.0; buffer_after = rw (← told.1.0) (search rules); upper_bound = told.1.1.0; strips_listed = told.1.1.1 }
