@@ -137,7 +137,7 @@ fn show(rt: HostRuntime, number: u64, answer: &[u32], numbers: &[f32]) -> Result
 fn show_refusal(rt: HostRuntime, refusal: u8, place: usize) {
     let mut line = [0u8; LINE_ROOM];
     let mut out = Text::new(0, &mut line);
-    out.refusal(refusal as u64, place as u64);
+    out.refusal(u64::from(refusal), place as u64);
     out.byte(b'\n');
     let _ = console::write(rt, out.written());
 }
