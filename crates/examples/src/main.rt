@@ -7,7 +7,7 @@
 
 mod plans;
 
-ghost use Rattle.std.specs.Prelude.{◌+◌, ◌≤◌, ◌<◌, length, IfSome};
+ghost use Rattle.std.specs.Prelude.{ℕ, ◌+◌, ◌≤◌, ◌<◌, length, IfSome};
 ghost use Rattle.course.specs.Vectors.{Near};
 ghost use Rattle.plane.specs.Area.{InArea};
 
@@ -323,26 +323,29 @@ fn listed(block: &[u8], i: usize) -> usize
     usize::from(byte_at(block, i)).min(plan::MOST_POINTS)
 }
 
-// A number of each point of a state: the one so many bytes into the point.
-fn numbers_of(block: &[u8], into: usize) -> [i32; plan::MOST_POINTS]
-    requires { into ≤ 8 }
+// A number of a point in the list of points: the one so many bytes into it.
+fn point_number(block: &[u8], into: usize, k: usize) -> i32
+    requires { (into ≤ 8) × (k < 64) }
 {
-    let mut numbers = [0; plan::MOST_POINTS];
-    for k in 0..listed(block, POINTS) {
-        numbers[k] = signed(u32_at(block, POINTS + 1 + into + POINT_SIZE * k));
-    }
-    numbers
+    signed(u32_at(block, POINTS + 1 + into + POINT_SIZE * k))
 }
 
-// The courses of a list at i.
-fn courses_at(block: &[u8], i: usize) -> [i32; plan::MOST_POINTS]
-    requires { i ≤ 1000 }
+// A course in a list at i.
+fn course_at(block: &[u8], i: usize, k: usize) -> i32
+    requires { (i ≤ 1000) × (k < 64) }
 {
-    let mut courses = [0; plan::MOST_POINTS];
-    for k in 0..listed(block, i) {
-        courses[k] = i32::from(u16_at(block, i + 1 + COURSE_SIZE * k));
+    i32::from(u16_at(block, i + 1 + COURSE_SIZE * k))
+}
+
+// A number for each place of a plan: those of a list at i as they are read, and then 0.
+fn numbers_of<F: Fn(usize) -> i32>(block: &[u8], i: usize, read: F) -> [i32; plan::MOST_POINTS]
+    requires { (k : ℕ) → k < 64 → F.pre read k }
+{
+    let mut numbers = [0; plan::MOST_POINTS];
+    for (k, number) in numbers.iter_mut().enumerate().take(listed(block, i)) {
+        *number = read(k);
     }
-    courses
+    numbers
 }
 
 fn mode_of(number: u8) -> Mode {
@@ -375,12 +378,13 @@ fn state_of(block: &[u8]) -> State {
         radius: u16_at(block, RADIUS),
         count: usize::from(u16_at(block, COUNT)),
     };
+    let courses = to_courses(block);
     let plan = Plan {
         head,
-        norths: numbers_of(block, 0),
-        easts: numbers_of(block, 4),
-        downs: numbers_of(block, 8),
-        courses: courses_at(block, to_courses(block)),
+        norths: numbers_of(block, POINTS, |k| point_number(block, 0, k)),
+        easts: numbers_of(block, POINTS, |k| point_number(block, 4, k)),
+        downs: numbers_of(block, POINTS, |k| point_number(block, 8, k)),
+        courses: numbers_of(block, courses, |k| course_at(block, courses, k)),
     };
     let rest = past_courses(block);
     let progress = Progress {
