@@ -100,6 +100,8 @@ pub fn farnkuppel_notes(file: &[u8], answer: &mut [u32]) -> u32
 }
 
 // What the words of a state say of strips: the check, and the row of a strip by its number from 1. Their blocks are lent as they lie.
+// In line: each of the two calls has one frame for all of it.
+#[inline(always)]
 fn told_at(words: &[i32], number: usize) -> Told
     requires { state_length ≤ length words.now }
     ensures checked_value { result.checked ≡ checked_as (check_in (taken_of words.now)) }

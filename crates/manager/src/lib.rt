@@ -166,6 +166,8 @@ fn placed(head: Head, p: Progress) -> bool
 }
 
 // Whether a state, its plan lent, is not refused 14.
+// In line: with a frame of its own it would lie under the rules of a plan on the deepest stack of the calls for C.
+#[inline(always)]
 pub fn valid(plan: &Lent, progress: Progress) -> bool
     ensures { (result ≡ valid_of (with_progress (lent_plan plan.now) progress)) × (result ≡ true → Valid (with_progress (lent_plan plan.now) progress)) }
 {

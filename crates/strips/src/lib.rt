@@ -130,6 +130,8 @@ fn at_once(refusal: u8) -> Fault
 }
 
 // Whether a state, its plan lent, has a strip plan, and of how many strips.
+// In line, as `told_from` is: the calls for C that ask for strips have one frame for all of it.
+#[inline(always)]
 fn check_from(plan: &Lent, progress: Progress) -> Result<usize, Fault>
     ensures { result ≡ checked_as (check_of (with_progress (lent_plan plan.now) progress)) }
 {
@@ -164,6 +166,7 @@ pub fn row_at(plan: &Lent, number: usize) -> Strip
 }
 
 // The check of a state, its plan lent, and the row of a strip by its number; zeros in the row where the plan is no strip plan, or has no such strip.
+#[inline(always)]
 pub fn told_from(plan: &Lent, progress: Progress, number: usize) -> Told
     ensures checked_value { result.checked ≡ checked_as (check_of (with_progress (lent_plan plan.now) progress)) }
     ensures strip_value { result.strip ≡ strip_row (with_progress (lent_plan plan.now) progress) number }
