@@ -3,8 +3,8 @@ ghost use Rattle.plan.specs.Long.{Long};
 
 use crate::{
     FEWEST_POINTS, Head, LAST_COURSE, LevelLeg, MOST_DOWN, MOST_LEVEL, MOST_POINTS, MOST_TURN,
-    Mode, Plan, at_place, courses_fit, easy_square, ends_number, given_of, leg_found,
-    line_corner_number, number_places_fit, pair_number, radius_fits,
+    Mode, Plan, at_place, courses_fit, easy_square, ends_number, given_of, leg_found, level_leg_at,
+    line_corner_number, number_places_fit, pair_number, point_at, radius_fits,
 };
 use dubins::Ends;
 use plane::Point;
@@ -57,11 +57,7 @@ impl Lent<'_> {
         requires { PointThere (lent_plan self.now) i }
         ensures { result ≡ plan_point (lent_plan self.now) i }
     {
-        Point {
-            north: self.norths[i],
-            east: self.easts[i],
-            down: self.downs[i],
-        }
+        point_at(self.norths, self.easts, self.downs, i)
     }
 
     // The course at a place.
@@ -77,11 +73,7 @@ impl Lent<'_> {
         requires { PointPlaced (lent_plan self.now) i × PointPlaced (lent_plan self.now) (i + 1) }
         ensures { IsLevelLeg (plan_point (lent_plan self.now) i) (plan_point (lent_plan self.now) (i + 1)) result }
     {
-        let leg = plane::level_leg(self.point_at(i), self.point_at(i + 1));
-        LevelLeg {
-            bearing: course::bearing(leg),
-            squared: plane::squared(leg),
-        }
+        level_leg_at(self.norths, self.easts, self.downs, i)
     }
 
     // The ends of the leg of a Dubins plan that ends at place i.

@@ -13,9 +13,9 @@ ghost use Rattle.fillets.specs.Corners.{tangent_of};
 ghost use Rattle.dubins.specs.Limits.{IsEnds};
 ghost use Rattle.plan.specs.declared.Mode.TheVariants.{Lines};
 ghost use Rattle.plan.specs.Limits.{most_points, most_radius, most_turn, in_area_of, signed_between, number_fits, arc_radius, radius_fits};
-ghost use Rattle.plan.specs.Places.{number_at};
+ghost use Rattle.plan.specs.Places.{number_at, place_at};
 ghost use Rattle.plan.specs.Rules.{mode_of, courses_fit, pair_number, corner_number, tangent_number, ends_number, at_place};
-ghost use Rattle.plan.specs.Stands.{given_of};
+ghost use Rattle.plan.specs.Stands.{There, Placed, IsLevelLeg, given_of};
 
 use dubins::Ends;
 pub use lent::Lent;
@@ -76,6 +76,32 @@ pub struct Plan {
 pub struct LevelLeg {
     pub bearing: usize,
     pub squared: u64,
+}
+
+// The point at a place of three arrays.
+fn point_at(norths: &[i32], easts: &[i32], downs: &[i32], i: usize) -> Point
+    requires { There norths.now easts.now downs.now i }
+    ensures { result ≡ place_at norths.now easts.now downs.now i }
+{
+    Point {
+        north: norths[i],
+        east: easts[i],
+        down: downs[i],
+    }
+}
+
+// The leg that starts at place i, of arrays that may end with it.
+pub fn level_leg_at(norths: &[i32], easts: &[i32], downs: &[i32], i: usize) -> LevelLeg
+    requires { Placed norths.now easts.now downs.now i × Placed norths.now easts.now downs.now (i + 1) }
+    ensures { IsLevelLeg (place_at norths.now easts.now downs.now i) (place_at norths.now easts.now downs.now (i + 1)) result }
+{
+    let a = point_at(norths, easts, downs, i);
+    let b = point_at(norths, easts, downs, i + 1);
+    let leg = plane::level_leg(a, b);
+    LevelLeg {
+        bearing: course::bearing(leg),
+        squared: plane::squared(leg),
+    }
 }
 
 // How many numbers the arrays of a plan have, and which stands where when they lie one after another.

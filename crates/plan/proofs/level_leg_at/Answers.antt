@@ -3,16 +3,16 @@ use mathlib.Core.Path.{ap, ◌∙◌}
 use Rattle.course.specs.Bearing.{bearing_of}
 use Rattle.plane.specs.Level.{level_leg_of, square_of}
 use Rattle.plan.proofs.PlaceLaws.{area-at}
-use Rattle.plan.proofs.lent.Lent.level_leg_at.Goals as goal
+use Rattle.plan.proofs.level_leg_at.Goals as goal
 
 pub level_leg-leg-requires : goal.level_leg-leg-requires
 level_leg-leg-requires c =
-    (area-at c.point_at.ensures c.requires.0, area-at c.point_at-2.ensures c.requires.1)
+    (area-at c.point_at-a.ensures c.requires.0, area-at c.point_at-b.ensures c.requires.1)
 
 pub returns : goal.returns
 returns c =
     let b = c.bearing.ensures in
-    let e = c.level_leg-leg.ensures.0 ∙ (λ t. level_leg_of (c.point_at.ensures t) (c.point_at-2.ensures t)) in
+    let e = c.level_leg-leg.ensures.0 ∙ (λ t. level_leg_of (c.point_at-a.ensures t) (c.point_at-b.ensures t)) in
     record {
       bearing = b.value ∙ ap bearing_of e;
       below = b.low;
