@@ -3,8 +3,9 @@ ghost use Rattle.plan.specs.Long.{Long};
 
 use crate::{
     FEWEST_POINTS, Head, LAST_COURSE, LevelLeg, MOST_DOWN, MOST_LEVEL, MOST_POINTS, MOST_TURN,
-    Mode, Plan, at_place, courses_fit, easy_square, ends_number, given_of, leg_found, level_leg_at,
-    line_corner_number, number_places_fit, pair_number, point_at, radius_fits,
+    Mode, Plan, at_place, course_at, courses_fit, easy_square, ends_number, given_of, leg_ends,
+    leg_found, level_leg_at, line_corner_number, number_places_fit, pair_number, point_at,
+    radius_fits,
 };
 use dubins::Ends;
 use plane::Point;
@@ -65,7 +66,7 @@ impl Lent<'_> {
         requires { CourseThere (lent_plan self.now) i }
         ensures { result ≡ plan_course (lent_plan self.now) i }
     {
-        self.courses[i] as usize
+        course_at(self.courses, i)
     }
 
     // The leg that starts at place i.
@@ -82,15 +83,8 @@ impl Lent<'_> {
         requires courses { (CourseThere (lent_plan self.now) (i - 1) × CourseThere (lent_plan self.now) i) × (self.now.head.radius ≤ most_radius) }
         ensures { (result ≡ ends_at self.now.head.radius (plan_point (lent_plan self.now)) (plan_course (lent_plan self.now)) (i - 1) i) × IsEnds result }
     {
-        let leave = self.course_at(i - 1);
-        let arrive = self.course_at(i);
-        Ends {
-            start: self.point_at(i - 1),
-            leave,
-            end: self.point_at(i),
-            arrive,
-            radius: u64::from(self.head.radius),
-        }
+        let radius = u64::from(self.head.radius);
+        leg_ends(self.norths, self.easts, self.downs, self.courses, i, radius)
     }
 
     // Whether no pair is equal in north and east. Those that are get counted: without a way out of the loop the compiler takes several at once.

@@ -13,9 +13,9 @@ ghost use Rattle.fillets.specs.Corners.{tangent_of};
 ghost use Rattle.dubins.specs.Limits.{IsEnds};
 ghost use Rattle.plan.specs.declared.Mode.TheVariants.{Lines};
 ghost use Rattle.plan.specs.Limits.{most_points, most_radius, most_turn, in_area_of, signed_between, number_fits, arc_radius, radius_fits};
-ghost use Rattle.plan.specs.Places.{number_at, place_at};
-ghost use Rattle.plan.specs.Rules.{mode_of, courses_fit, pair_number, corner_number, tangent_number, ends_number, at_place};
-ghost use Rattle.plan.specs.Stands.{There, Placed, IsLevelLeg, given_of};
+ghost use Rattle.plan.specs.Places.{number_at, place_at, course_at};
+ghost use Rattle.plan.specs.Rules.{mode_of, ends_at, courses_fit, pair_number, corner_number, tangent_number, ends_number, at_place};
+ghost use Rattle.plan.specs.Stands.{There, Placed, Aiming, IsLevelLeg, given_of};
 
 use dubins::Ends;
 pub use lent::Lent;
@@ -78,8 +78,8 @@ pub struct LevelLeg {
     pub squared: u64,
 }
 
-// The point at a place of three arrays.
-fn point_at(norths: &[i32], easts: &[i32], downs: &[i32], i: usize) -> Point
+// The point at a place of three arrays, which may end with it.
+pub fn point_at(norths: &[i32], easts: &[i32], downs: &[i32], i: usize) -> Point
     requires { There norths.now easts.now downs.now i }
     ensures { result ≡ place_at norths.now easts.now downs.now i }
 {
@@ -88,6 +88,14 @@ fn point_at(norths: &[i32], easts: &[i32], downs: &[i32], i: usize) -> Point
         east: easts[i],
         down: downs[i],
     }
+}
+
+// The course at a place of an array, which may end with it.
+pub fn course_at(courses: &[i32], i: usize) -> usize
+    requires { Aiming courses.now i }
+    ensures { result ≡ course_at courses.now i }
+{
+    courses[i] as usize
 }
 
 // The leg that starts at place i, of arrays that may end with it.
@@ -101,6 +109,31 @@ pub fn level_leg_at(norths: &[i32], easts: &[i32], downs: &[i32], i: usize) -> L
     LevelLeg {
         bearing: course::bearing(leg),
         squared: plane::squared(leg),
+    }
+}
+
+// The ends of the Dubins leg that ends at place i, of arrays that may end with it.
+pub fn leg_ends(
+    norths: &[i32],
+    easts: &[i32],
+    downs: &[i32],
+    courses: &[i32],
+    i: usize,
+    radius: u64,
+) -> Ends
+    requires { (1 ≤ i) × ((Placed norths.now easts.now downs.now (i - 1) × Placed norths.now easts.now downs.now i) × ((Aiming courses.now (i - 1) × Aiming courses.now i) × (radius ≤ most_radius))) }
+    ensures { (result ≡ ends_at radius (place_at norths.now easts.now downs.now) (course_at courses.now) (i - 1) i) × IsEnds result }
+{
+    let start = point_at(norths, easts, downs, i - 1);
+    let end = point_at(norths, easts, downs, i);
+    let leave = course_at(courses, i - 1);
+    let arrive = course_at(courses, i);
+    Ends {
+        start,
+        leave,
+        end,
+        arrive,
+        radius,
     }
 }
 

@@ -42,7 +42,8 @@ fn put_strips(state: State, strips: usize, out: &mut Text)
 {
     let plan = state.plan.lent();
     for i in 0..strips {
-        put_strip(strips::row_at(&plan, i + 1), out);
+        let row = strips::row_at(plan.norths, plan.easts, plan.downs, plan.courses, i + 1);
+        put_strip(row, out);
     }
 }
 

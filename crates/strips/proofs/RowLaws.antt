@@ -16,7 +16,7 @@ use Rattle.manager.specs.declared.State.{State}
 use Rattle.manager.specs.State.{valid_of}
 use Rattle.manager.proofs.StateLaws.{valid-means}
 use Rattle.strips.specs.Strips.{strips_in}
-use Rattle.strips.specs.Check.{Checked, paired_of, fault_check, check_of, strip_of, no_strip, strip_row, StripThere}
+use Rattle.strips.specs.Check.{Checked, paired_of, fault_check, check_of, strip_of, no_strip, strip_row, PlanStripThere}
 use Rattle.strips.proofs.CheckLaws.{check-unsound, check-unpaired, check-paired}
 use Rattle.strips.proofs.ThereLaws.{strips-there}
 
@@ -43,7 +43,7 @@ module _ (s : State) where
 
   module _ {r : Checked} {j : ℕ} where
     pub row-there : Long s.plan.norths s.plan.easts s.plan.downs s.plan.courses → r ≡ check_of s → 1 ≤ j → j ≤ r.strips
-        → StripThere s.plan j
+        → PlanStripThere s.plan j
     row-there l e a b =
         let m = ap (λ (x : Checked). x.strips) e in
         let c = counts (omega (arith, a, b, m)) in

@@ -1,6 +1,6 @@
 -- Clauses 6.6, 7.18, 8.3, 15.1, 20.4 to 20.6: the check of a state for strips and the row of a strip, as they are worked out, and what the check
 -- owes the definition of a strip plan. Assumes nothing.
-use Rattle.std.specs.Prelude.{◌≡◌, Bool, true, false, ℕ, ◌+◌, ◌-◌, ◌%◌, ◌≤◌, eqb, leb, Result, Ok, Err, pos, ◌-ℤ◌}
+use Rattle.std.specs.Prelude.{◌≡◌, Bool, true, false, List, ℕ, ◌+◌, ◌-◌, ◌%◌, ◌≤◌, eqb, leb, Result, Ok, Err, ℤ, pos, ◌-ℤ◌}
 use Rattle.conditions.specs.Choose.{choose}
 use Rattle.conditions.specs.Both.{both}
 use Rattle.conditions.specs.Between.{between}
@@ -16,7 +16,7 @@ use Rattle.plan.specs.declared.Mode.TheVariants.{Lines, Fillets, Dubins}
 use Rattle.plan.specs.declared.Plan.{Plan}
 use Rattle.plan.specs.Limits.{most_points}
 use Rattle.plan.specs.Places.{plan_point, plan_course}
-use Rattle.plan.specs.Lent.{PointPlaced, CourseThere}
+use Rattle.plan.specs.Stands.{Placed, Aiming}
 use Rattle.manager.specs.declared.State.{State}
 use Rattle.manager.specs.State.{valid_of}
 use Rattle.strips.specs.declared.Fault.{Fault}
@@ -105,17 +105,21 @@ pub record Tied (s : State) (r : Checked) : Type 0 where
 abbrev pub OneAnswer : Type 0
 OneAnswer = (s : State) (r q : Checked) → Tied s r → Tied s q → r ≡ q
 
--- ---- what the functions ask of a plan: the places of strip j are there, its points lie in the area, and its courses are courses, as is that of the
--- strip before
-pub record StripThere (p : Plan) (j : ℕ) : Type 0 where
+-- ---- what the functions ask of lent numbers: the places of strip j are there, its points lie in the area, and its courses are courses, as is that
+-- of the strip before
+pub record StripThere (norths easts downs courses : List ℤ) (j : ℕ) : Type 0 where
   pub least : 1 ≤ j
   pub most : j ≤ most_points
-  pub first : PointPlaced p (first_place j)
-  pub last : PointPlaced p (last_place j)
-  pub leave : CourseThere p (first_place j)
-  pub arrive : CourseThere p (last_place j)
-  pub before : 2 ≤ j → CourseThere p (first_place (j - 1))
+  pub first : Placed norths easts downs (first_place j)
+  pub last : Placed norths easts downs (last_place j)
+  pub leave : Aiming courses (first_place j)
+  pub arrive : Aiming courses (last_place j)
+  pub before : 2 ≤ j → Aiming courses (first_place (j - 1))
+
+-- the same of a plan; for proofs alone
+abbrev pub PlanStripThere : Plan → ℕ → Type 0
+PlanStripThere p = StripThere p.norths p.easts p.downs p.courses
 
 -- so of each strip; for proofs alone
 abbrev pub StripsThere : Plan → Type 0
-StripsThere p = (j : ℕ) → 1 ≤ j → j ≤ strips_in p.head.count → StripThere p j
+StripsThere p = (j : ℕ) → 1 ≤ j → j ≤ strips_in p.head.count → PlanStripThere p j

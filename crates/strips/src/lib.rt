@@ -6,11 +6,12 @@ ghost use Rattle.std.specs.Prelude.{◌≡◌, ◌≤◌, ◌<◌};
 ghost use Rattle.refusals.specs.Sweep.{noted, passed_of};
 ghost use Rattle.course.specs.Vectors.{Near};
 ghost use Rattle.plan.specs.Limits.{most_points, full_circle};
-ghost use Rattle.plan.specs.Places.{plan_point, plan_course};
-ghost use Rattle.plan.specs.Lent.{lent_plan, PointPlaced};
+ghost use Rattle.plan.specs.Places.{place_at, course_at, plan_point, plan_course};
+ghost use Rattle.plan.specs.Stands.{Placed};
+ghost use Rattle.plan.specs.Lent.{lent_plan};
 ghost use Rattle.manager.specs.State.{with_progress};
 ghost use Rattle.strips.specs.Strips.{first_place, last_place, strip_leg};
-ghost use Rattle.strips.specs.Check.{opposed_of, rule_broken, fault_of, paired_of, check_of, checked_as, numbered, strip_of, strip_row, Tied, OneAnswer, StripThere, StripsThere};
+ghost use Rattle.strips.specs.Check.{opposed_of, rule_broken, fault_of, paired_of, check_of, checked_as, numbered, strip_of, strip_row, Tied, OneAnswer, StripThere, PlanStripThere, StripsThere};
 ghost use Rattle.strips.specs.Holds.{StripsHold};
 
 use course::Vector;
@@ -62,13 +63,13 @@ fn first_place(number: usize) -> usize
 }
 
 // The leg of a strip in north and east.
-fn leg_of(plan: &Lent, number: usize) -> Vector
-    requires { ((1 ≤ number) × (number ≤ most_points)) × (PointPlaced (lent_plan plan.now) (first_place number) × PointPlaced (lent_plan plan.now) (last_place number)) }
-    ensures { (result ≡ strip_leg (plan_point (lent_plan plan.now)) number) × Near 1000000 result }
+fn leg_of(norths: &[i32], easts: &[i32], downs: &[i32], number: usize) -> Vector
+    requires { ((1 ≤ number) × (number ≤ most_points)) × (Placed norths.now easts.now downs.now (first_place number) × Placed norths.now easts.now downs.now (last_place number)) }
+    ensures { (result ≡ strip_leg (place_at norths.now easts.now downs.now) number) × Near 1000000 result }
 {
     let i = first_place(number);
-    let a = plan.point_at(i);
-    let b = plan.point_at(i + 1);
+    let a = plan::point_at(norths, easts, downs, i);
+    let b = plan::point_at(norths, easts, downs, i + 1);
     plane::level_leg(a, b)
 }
 
@@ -82,7 +83,7 @@ fn opposed(course: usize, before: usize) -> bool
 
 // The first rule that a strip breaks, if it breaks one.
 fn rule_broken(plan: &Lent, number: usize) -> Option<u8>
-    requires { StripThere (lent_plan plan.now) number }
+    requires { PlanStripThere (lent_plan plan.now) number }
     ensures { result ≡ noted (rule_broken (plan_point (lent_plan plan.now)) (plan_course (lent_plan plan.now)) number) }
 {
     let i = first_place(number);
@@ -90,7 +91,8 @@ fn rule_broken(plan: &Lent, number: usize) -> Option<u8>
     if course != plan.course_at(i + 1) {
         return Some(EQUAL_COURSES);
     }
-    if course != course::bearing(leg_of(plan, number)) {
+    let leg = leg_of(plan.norths, plan.easts, plan.downs, number);
+    if course != course::bearing(leg) {
         return Some(ALONG_THE_LEG);
     }
     if 2 <= number && !opposed(course, plan.course_at(first_place(number - 1))) {
@@ -151,13 +153,13 @@ fn check_from(plan: &Lent, progress: Progress) -> Result<usize, Fault>
     }
 }
 
-// The row of a strip of a plan that has it.
-pub fn row_at(plan: &Lent, number: usize) -> Strip
-    requires { StripThere (lent_plan plan.now) number }
-    ensures { result ≡ strip_of (plan_point (lent_plan plan.now)) (plan_course (lent_plan plan.now)) number }
+// The row of a strip of arrays that have it, and may end with it.
+pub fn row_at(norths: &[i32], easts: &[i32], downs: &[i32], courses: &[i32], number: usize) -> Strip
+    requires { StripThere norths.now easts.now downs.now courses.now number }
+    ensures { result ≡ strip_of (place_at norths.now easts.now downs.now) (course_at courses.now) number }
 {
-    let course = plan.course_at(first_place(number));
-    let length = plane::length(leg_of(plan, number));
+    let course = plan::course_at(courses, first_place(number));
+    let length = plane::length(leg_of(norths, easts, downs, number));
     Strip {
         number,
         course,
@@ -173,7 +175,13 @@ pub fn told_from(plan: &Lent, progress: Progress, number: usize) -> Told
 {
     let checked = check_from(plan, progress);
     let strip = match checked {
-        Ok(strips) if 1 <= number && number <= strips => row_at(plan, number),
+        Ok(strips) if 1 <= number && number <= strips => row_at(
+            plan.norths,
+            plan.easts,
+            plan.downs,
+            plan.courses,
+            number,
+        ),
         _ => Strip {
             number: 0,
             course: 0,

@@ -23,7 +23,7 @@ straight e =
     let s = e.first_place-i.ensures in
     let l = course-there p e.course_at-course.ensures s in
     let a = course-there p e.course_at.ensures (behind e.requires.least s) in
-    let v = e.bearing.ensures.value ∙ ap bearing_of e.leg_of.ensures.0 in
+    let v = e.bearing.ensures.value ∙ ap bearing_of e.leg_of-leg.ensures.0 in
     (sym l ∙ e.if-course-course_at.false ∙ a, sym l ∙ e.if-course-bearing.false ∙ v)
 
 -- whether it and that of the strip before are opposed
@@ -47,7 +47,7 @@ returns-then-course-bearing c =
     let s = c.first_place-i.ensures in
     let l = course-there p c.course_at-course.ensures s in
     let a = course-there p c.course_at.ensures (behind c.requires.least s) in
-    let v = c.bearing.ensures.value ∙ ap bearing_of c.leg_of.ensures.0 in
+    let v = c.bearing.ensures.value ∙ ap bearing_of c.leg_of-leg.ensures.0 in
     sym (ap noted (number-two _ _ _ (sym l ∙ c.if-course-course_at.false ∙ a) (λ e. c.if-course-bearing.true (l ∙ e ∙ sym v))))
 
 pub returns-then-not-opposed : goal.returns-then-not-opposed
