@@ -1,6 +1,6 @@
 -- What `guide_of` gives lines and fillets on the last leg, and Dubins plans on every leg. Assumes nothing.
 use mathlib.Core.Path.{◌≡◌}
-use mathlib.Core.Bool.{true, false}
+use mathlib.Core.Bool.{true}
 use Prim.Native.Nat.{ℕ, ◌-◌}
 use Rattle.conditions.specs.Choose.{choose}
 use Rattle.plane.specs.declared.Point.{Point}

@@ -130,7 +130,10 @@ fn last_phase(head: Head, index: usize) -> u8
 fn at_end(head: Head, p: Progress) -> bool
     ensures { result ≡ at_end head.mode head.count p }
 {
-    on_last_leg(head.count, p.index) && p.phase == last_phase(head, p.index)
+    conditions::both(
+        on_last_leg(head.count, p.index),
+        p.phase == last_phase(head, p.index),
+    )
 }
 
 // Whether the index is one that a plan has.
@@ -138,7 +141,7 @@ fn at_end(head: Head, p: Progress) -> bool
 fn index_fits(head: Head, p: Progress) -> bool
     ensures { result ≡ index_fits head.count p }
 {
-    2 <= p.index && p.index <= last_index(head.count)
+    conditions::both(2 <= p.index, p.index <= last_index(head.count))
 }
 
 // Whether the phase is one that the mode allows at the index.
@@ -146,7 +149,7 @@ fn index_fits(head: Head, p: Progress) -> bool
 fn phase_fits(head: Head, p: Progress) -> bool
     ensures { result ≡ phase_fits head.mode head.count p }
 {
-    1 <= p.phase && p.phase <= last_phase(head, p.index)
+    conditions::both(1 <= p.phase, p.phase <= last_phase(head, p.index))
 }
 
 // Whether a flight that is finished is at the last index and phase.
@@ -162,7 +165,10 @@ fn end_fits(head: Head, p: Progress) -> bool
 fn placed(head: Head, p: Progress) -> bool
     ensures { result ≡ placed_of head.mode head.count p }
 {
-    index_fits(head, p) && phase_fits(head, p) && end_fits(head, p)
+    conditions::both(
+        index_fits(head, p),
+        conditions::both(phase_fits(head, p), end_fits(head, p)),
+    )
 }
 
 // Whether a state, its plan lent, is not refused 14.

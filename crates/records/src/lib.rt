@@ -47,9 +47,9 @@ pub const DOWN_OFFSET: usize = 8;
 const OPTIONAL: u8 = 128;
 
 // The values of a speed.
-const LEAST_SPEED: u16 = 1;
+const LEAST_SPEED: usize = 1;
 
-const MOST_SPEED: u16 = 1000;
+const MOST_SPEED: usize = 1000;
 
 // A row of the table: a kind, the first version that has it, the least and the greatest length of its body.
 #[derive(Clone, Copy)]
@@ -180,7 +180,7 @@ pub fn u32_at(s: &[u8], i: usize) -> u32
 fn i32_at(s: &[u8], i: usize) -> i32
     ensures { result ≡ i32_at s.now i }
 {
-    i32::from_be_bytes(bytes_at(s, i))
+    integers::signed(u32_at(s, i))
 }
 
 // The point of a body.
@@ -198,7 +198,8 @@ fn radius_rule(body: &[u8], before: Tally) -> Result<Effect, Fault>
     ensures { (a : Parts) → before ≡ tally_of a → verdict_of a result ≡ radius_rule body.now a }
 {
     let radius = u16_at(body, 0);
-    let in_range = (LEAST_RADIUS..=MOST_RADIUS).contains(&radius);
+    let size = usize::from(radius);
+    let in_range = conditions::between(LEAST_RADIUS as usize, MOST_RADIUS as usize, size);
     if in_range && before.radius == 0 && before.count == 0 {
         return Ok(Effect::SetRadius(radius));
     }
@@ -220,7 +221,9 @@ fn course_rule(body: &[u8], before: Tally) -> Result<Effect, Fault>
 fn optional_rule(kind: u8, body: &[u8]) -> Result<Effect, Fault>
     ensures { (a : Parts) → verdict_of a result ≡ optional_rule kind body.now a }
 {
-    if kind == SPEED && !(LEAST_SPEED..=MOST_SPEED).contains(&u16_at(body, 0)) {
+    if kind == SPEED
+        && !conditions::between(LEAST_SPEED, MOST_SPEED, usize::from(u16_at(body, 0)))
+    {
         return Err(Fault::Wrong);
     }
     Ok(Effect::Nothing)
@@ -260,7 +263,7 @@ fn known_rule(
     requires { row ≡ row_of kind }
     ensures { (a : Parts) → before ≡ tally_of a → verdict_of a result ≡ known_rule version kind body.now a }
 {
-    if row.since <= version && (row.low..=row.high).contains(&body.len()) {
+    if row.since <= version && conditions::between(row.low, row.high, body.len()) {
         return value_rule(kind, body, before);
     }
     Err(Fault::Wrong)
@@ -362,7 +365,8 @@ impl Tally {
         ensures numbers_after { (a : Parts) → self ≡ tally_of a → numbers.old ≡ numbers_in a → numbers.new ≡ numbers_in (with_effect a effect) }
     {
         match effect {
-            Effect::Nothing => self,
+            // Field by field: a copy of the whole takes what lies between the fields along, in loads that wait for the stores of the record before.
+            Effect::Nothing => Tally { ..self },
             Effect::AddPoint(point) => {
                 put_point(point, self.count, numbers);
                 let count = one_more(self.count);
