@@ -7,13 +7,13 @@ use borrow.Author.Tests.{eqb-true, eqb-false, eq-eqb, ne_eqb}
 use Rattle.conditions.proofs.ChooseLaws.{choose-true, choose-false}
 use Rattle.conditions.proofs.Bools.{by_bool}
 use Rattle.refusals.specs.Outcome.{good, refused, check, and_then, refusal_of, is_good}
-use Rattle.refusals.specs.Sweep.{done, sweep}
+use Rattle.refusals.specs.Sweep.{done, sweep, noted, passed_of}
 use Rattle.refusals.specs.Order.{CheckChain, Lowest, Order}
 use Rattle.refusals.proofs.Anchors.{literals}
 use Rattle.refusals.proofs.SweepLaws.{every-means, every_of}
 
 chain : CheckChain
-unfolding check and_then refusal_of is_good
+unfolding check and_then refusal_of is_good passed_of noted
 chain =
     record {
       passes = λ n o. refl;
@@ -22,6 +22,10 @@ chain =
       stops = λ n p f. refl;
       shown = λ n p. (refl, refl);
       clean = (refl, refl);
+      answered = λ n p. refl;
+      passed = refl;
+      number_noted = λ n. refl;
+      none_noted = refl;
     }
 
 -- past a place that passes

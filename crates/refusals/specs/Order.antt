@@ -1,10 +1,10 @@
 -- Holds clauses 6.1, 6.2, 7.1 to 7.18: what the definitions of this crate come to: the numbers, the order of a chain, and the lowest place of a
 -- sweep. A definition that is changed together with the code that it describes is refused here. Assumes nothing.
-use Rattle.std.specs.Prelude.{◌≡◌, true, false, Bool, List, [], ◌∷◌, ℕ, ◌+◌, ◌-◌, ◌≤◌, ◌<◌}
+use Rattle.std.specs.Prelude.{◌≡◌, true, false, Bool, List, [], ◌∷◌, ℕ, suc, ◌+◌, ◌-◌, ◌≤◌, ◌<◌, Some, None, Ok, Err}
 use Rattle.refusals.specs.declared.Refusal.{Refusal}
 use Rattle.refusals.specs.Numbers.{file_too_short, no_mark, no_version, no_serial, wrong_area, wrong_record, too_new, point_count, course_count, equal_neighbours, sharp_corner, short_leg, no_position, no_state, other_serial, no_room, no_case, not_strips, misfit}
 use Rattle.refusals.specs.Outcome.{Outcome, good, refused, check, and_then, refusal_of, is_good}
-use Rattle.refusals.specs.Sweep.{Done, done, sweep, every}
+use Rattle.refusals.specs.Sweep.{Done, done, sweep, every, noted, passed_of}
 
 -- the numbers by their names, in the order of section 7, and that of 17.5
 abbrev pub named : List ℕ
@@ -23,6 +23,10 @@ pub record CheckChain : Type 0 where
   pub stops : (n p : ℕ) (f : Done → Outcome Done) → and_then (refused n p) f ≡ refused n p
   pub shown : (n p : ℕ) → (refusal_of {A = Done} (refused n p) ≡ refusal n p) × (is_good {A = Done} (refused n p) ≡ false)
   pub clean : (refusal_of (good done) ≡ refusal 0 0) × (is_good (good done) ≡ true)
+  pub answered : (n p : ℕ) → passed_of {A = Done} (refused n p) ≡ Err (refusal n p)
+  pub passed : passed_of (good done) ≡ Ok tt
+  pub number_noted : (n : ℕ) → noted (suc n) ≡ Some (suc n)
+  pub none_noted : noted 0 ≡ None
 
 -- k places from i on, counted from 0 there and from 1 in a refusal
 pub record Lowest (k i : ℕ) : Type 0 where
