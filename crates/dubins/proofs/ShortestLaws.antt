@@ -51,10 +51,10 @@ module _ (f : Option Path) (best : ℕ) (k : Measures f best) (c : Option Path) 
   measures-absent h = subst (λ (x : Option Path). Measures (shorter_of f x) best) (sym h) k
 
   module _ (p : Path) (there : c ≡ Some p) where
-    measures-kept : (m : ℕ) → m < no_length → best ≤ m → m ≤ p.length → Measures (shorter_of f c) best
+    pub measures-kept : (m : ℕ) → m < no_length → best ≤ m → m ≤ p.length → Measures (shorter_of f c) best
     measures-kept m b h l = subst (λ (x : Option Path). Measures (shorter_of f x) best) (sym there) (subst (λ (x : Option Path). Measures x best) (sym (earlier-stays f best k p m b h l)) k)
 
-    measures-taken : (length : ℕ) → length ≡ p.length → length < no_length → length < best → Measures (shorter_of f c) length
+    pub measures-taken : (length : ℕ) → length ≡ p.length → length < no_length → length < best → Measures (shorter_of f c) length
     measures-taken length e b h = subst (λ (x : Option Path). Measures (shorter_of f x) length) (sym there) (subst (λ (x : Option Path). Measures x length) (sym (takes f k)) (e, b))
       where
         takes : (g : Option Path) → Measures g best → shorter_of g (Some p) ≡ Some p

@@ -1,4 +1,4 @@
--- The sides of a case by its number are those of the case. Assumes nothing.
+-- The numbers of the cases, and that the sides of a case by its number are those of the case. Assumes nothing.
 use mathlib.Core.Path.{◌≡◌, refl}
 use Rattle.dubins.specs.declared.Case.{Case}
 use Rattle.dubins.specs.declared.Case.TheVariants.{Rsr, Rsl, Lsr, Lsl}
@@ -19,4 +19,4 @@ ends Lsr = refl
 ends Lsl = refl
 
 pub sides : SidesByNumber
-sides = record { starts = starts; ends = ends }
+sides = record { rsr = refl; rsl = refl; lsr = refl; lsl = refl; starts = starts; ends = ends }

@@ -42,7 +42,12 @@ right_at_start case = leb case 2
 unfoldable pub right_at_end : ℕ → Bool
 right_at_end case = eqb (case % 2) 1
 
+-- and the numbers themselves
 pub record SidesByNumber : Type 0 where
+  pub rsr : number_of Rsr ≡ 1
+  pub rsl : number_of Rsl ≡ 2
+  pub lsr : number_of Lsr ≡ 3
+  pub lsl : number_of Lsl ≡ 4
   pub starts : (case : Case) → right_at_start (number_of case) ≡ starts_right case
   pub ends : (case : Case) → right_at_end (number_of case) ≡ ends_right case
 
