@@ -11,11 +11,12 @@ use lib.Signed.{◌<ℤ◌, <ℤ_irrefl}
 use borrow.Author.Tests.{lt-ltb, le-ltb}
 use Rattle.conditions.specs.Choose.{choose}
 use Rattle.conditions.proofs.ChooseLaws.{choose-true, choose-false}
-use Rattle.integers.proofs.Ring.{v, lit, sub, mul, same, le, le_of, lt}
+use Rattle.integers.specs.Bounds.{Within}
+use Rattle.integers.proofs.Ring.{v, lit, sub, mul, same, le, le_of, lt, within-range}
 use Rattle.course.specs.declared.Vector.{Vector}
 use Rattle.course.specs.Vectors.{plain, cross}
 use Rattle.course.specs.Direction.{quarter, turned, direction_of}
-use Rattle.course.specs.Bearing.{edge_of, edge_north, edge_east, Reached, IsBearing, reaches, climb, bearing_in, bearing_by, bearing_of, signed_course, Bears}
+use Rattle.course.specs.Bearing.{edge_of, edge_north, edge_east, Reached, IsBearing, reaches, climb, bearing_in, bearing_by, bearing_of, signed_course, signed_bearing_of, IsSigned, Bears}
 use Rattle.course.proofs.TableLaws.{and_left, and_right}
 use Rattle.course.proofs.DirectionLaws.{table-facts}
 use Rattle.course.proofs.SectorLaws.{Shifted, sector-is, sector-only}
@@ -219,3 +220,22 @@ signed_low k h = choose-true (ltb k 2048) (pos k) (pos k -ℤ pos 4096) (lt-ltb 
 pub signed_high : (k : ℕ) → 2048 ≤ k → signed_course k ≡ pos k -ℤ pos 4096
 unfolding signed_course
 signed_high k h = choose-false (ltb k 2048) (pos k) (pos k -ℤ pos 4096) (le-ltb k 2048 h)
+
+range-dec : (k : ℕ) → k < 4096 → Dec (k < 2048) → IsSigned (signed_course k)
+range-dec k h (yes p) = rw (signed_low k p) (record { least = le (v (negsuc 2047)) (lit k) (omega arith); most = le (lit k) (lit 2047) (omega arith) })
+range-dec k h (no p) =
+    rw (signed_high k (omega arith)) (record { least = le (v (negsuc 2047)) (sub (lit k) (lit 4096)) (omega arith); most = le (sub (lit k) (lit 4096)) (lit 2047) (omega arith) })
+
+pub signed_range : (w : Vector) → IsSigned (signed_bearing_of w)
+signed_range w = range-dec (bearing_of w) (bearing-low w) (dec_lt (bearing_of w) 2048)
+
+-- a number in that range has that bound
+pub signed-within : (z : ℤ) → IsSigned z → Within 2048 z
+signed-within z h = within-range 2048 z h.least (le (v z) (lit 2048) (omega (arith, le_of (v z) (lit 2047) h.most)))
+
+-- the range of what an equation says
+pub signed-carried : {r : ℤ} (w : Vector) → r ≡ signed_bearing_of w → IsSigned r
+signed-carried w e = subst IsSigned (sym e) (signed_range w)
+
+pub near-carried : {r : ℤ} (w : Vector) → r ≡ signed_bearing_of w → Within 2048 r
+near-carried w e = signed-within _ (signed-carried w e)

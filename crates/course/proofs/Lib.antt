@@ -1,5 +1,6 @@
 pub mod VectorLaws
 pub mod TableLaws
+pub mod SineLaws
 pub mod DirectionLaws
 pub mod EdgeLaws
 pub mod SectorLaws

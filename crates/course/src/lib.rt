@@ -213,7 +213,7 @@ impl Sizes {
     }
 
     // How many of the first quarter's edges it has reached, by halving the range.
-    // Kept as a loop: what is halved is a range of edges that are worked out, not a slice that the library's `partition_point` could search.
+    // Kept as a loop: what is halved is a range of edges, each asked by two entries of the table, not a slice that the library's `partition_point` could search.
     fn edges_by_halves(self) -> usize
         ensures { Reached self.north self.east result }
     {
