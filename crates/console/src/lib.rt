@@ -49,7 +49,9 @@ pub fn complain(rt: HostRuntime, text: &[u8]) {
 }
 
 // An error's text, as much as a room has room for.
-fn text_of<'a>(error: &Error, room: &'a mut [u8]) -> &'a [u8] {
+fn text_of<'a>(error: &Error, room: &'a mut [u8]) -> &'a [u8]
+    ensures { length result.now ≤ length room.old }
+{
     let most = room.len();
     let mut rest = &mut room[..];
     let _ = write!(rest, "{error}");

@@ -175,11 +175,15 @@ fn show_fillet(rt: HostRuntime) {
 }
 
 fn write_case(rt: HostRuntime, case: Case) {
-    match case {
-        Case::Rsr => write(rt, b" RSR"),
-        Case::Rsl => write(rt, b" RSL"),
-        Case::Lsr => write(rt, b" LSR"),
-        Case::Lsl => write(rt, b" LSL"),
+    if case.starts_right() {
+        write(rt, b" RS");
+    } else {
+        write(rt, b" LS");
+    }
+    if case.ends_right() {
+        write(rt, b"R");
+    } else {
+        write(rt, b"L");
     }
 }
 

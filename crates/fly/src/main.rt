@@ -3,7 +3,7 @@
 // before it.
 #![tactic(auto)]
 
-ghost use Rattle.std.specs.Prelude.{◌≤◌, ◌<◌, length};
+ghost use Rattle.std.specs.Prelude.{◌≤◌, ◌<◌, length, IfSome};
 
 use console::WriteFailed;
 use flight::Flown;
@@ -98,7 +98,9 @@ fn open<'a>(
     place: usize,
     word: &[u8],
     room: &'a mut [u8],
-) -> Option<(File, &'a [u8])> {
+) -> Option<(File, &'a [u8])>
+    ensures { IfSome result (λ r. length r.1.now ≤ length room.old) }
+{
     let Ok(length) = rt.arg(place, room) else {
         console::fail(rt, word, &Error::from_raw_os_error(NAME_TOO_LONG));
         return None;
@@ -279,7 +281,9 @@ fn fly_fixes(rt: HostRuntime, reader: u32, plan: &[u8]) {
 }
 
 // Opens the plan and reads it; the file is closed before the fixes are opened.
-fn read_plan(rt: HostRuntime, space: &mut [u8]) -> Option<&[u8]> {
+fn read_plan(rt: HostRuntime, space: &mut [u8]) -> Option<&[u8]>
+    ensures { IfSome result (λ plan. length plan.now ≤ length space.old) }
+{
     let mut room = [0u8; NAME_ROOM];
     let (mut plan, name) = open(rt, PLAN, b"PLAN", &mut room)?;
     let Ok(count) = console::fill(rt, &mut plan, name, space) else {
